@@ -1,0 +1,13 @@
+// What a table is: rows of words with marks, the calls that every table answers, and its refusals.
+mod faults;
+mod parts;
+mod tables;
+
+pub use faults::Place;
+pub use faults::TableFault;
+pub use parts::Marking;
+pub use parts::Marks;
+pub use parts::Purge;
+pub use parts::Search;
+pub use parts::Shape;
+pub use tables::Table;
