@@ -64,11 +64,11 @@ module _ (h : ℕ → Marks → Marks) (ms : List ℕ) where
       ∙ getD-map-counting after 0 d r r 0 lt (omega arith)
 
   pub tidy-remarked : (d : ℕ) → ((r : ℕ) → r < d → (h r (marksOf (getD ms r 0)) .empty && h r (marksOf (getD ms r 0)) .hit) ≡ false)
-    → (r : ℕ) → r < d → proper (getD (remarked h d ms) r 0) ≡ true
+      → (r : ℕ) → r < d → proper (getD (remarked h d ms) r 0) ≡ true
   tidy-remarked d quiet r lt = rw (byte-remarked d r lt) (proper-byteOf (h r (marksOf (getD ms r 0))) (quiet r lt))
 
   pub rows-remarked : (ws : List ℕ) (k d : ℕ) (g : Row → Row)
-    → ((r : ℕ) → r < d → record { words = take k (drop (r * k) ws); marks = h r (marksOf (getD ms r 0)) } ≡ g (rowIn ws ms k r))
-    → rowsOf ws (remarked h d ms) k d ≡ map g (rowsOf ws ms k d)
+      → ((r : ℕ) → r < d → record { words = take k (drop (r * k) ws); marks = h r (marksOf (getD ms r 0)) } ≡ g (rowIn ws ms k r))
+      → rowsOf ws (remarked h d ms) k d ≡ map g (rowsOf ws ms k d)
   rows-remarked ws k d g each = rows-map ws ms ws (remarked h d ms) k d g
       (λ r lt. rw (byte-remarked d r lt, marksOf-byteOf (h r (marksOf (getD ms r 0)))) (each r lt))

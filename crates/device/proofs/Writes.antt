@@ -28,7 +28,7 @@ words-other ws k r s v j in-row ne = at (cases-order j r)
         let far = rows-apart j r k lt in
         let place : r * k + s ≡ j * k + (r * k + s - j * k) = omega arith in
         rw place (ap (take k) (drop-set-add (j * k) ws (r * k + s - j * k) v)
-          ∙ take-set-le k (drop (j * k) ws) (r * k + s - j * k) v (omega arith))
+        ∙ take-set-le k (drop (j * k) ws) (r * k + s - j * k) v (omega arith))
     at (inr (inr lt)) =
         let far = rows-apart r j k lt in
         ap (take k) (drop-set-lt (j * k) ws (r * k + s) v (omega arith))
@@ -39,7 +39,7 @@ module _ (ms : List ℕ) (d r : ℕ) (m : Marks) (held : d ≤ length ms) (withi
   marks-here = let lt : r < length ms = omega arith in rw getD-set-same (marksOf-byteOf m)
 
   pub tidy-set : (m .empty && m .hit) ≡ false → ((j : ℕ) → j < d → proper (getD ms j 0) ≡ true)
-    → (j : ℕ) → j < d → proper (getD (set ms r (byteOf m)) j 0) ≡ true
+      → (j : ℕ) → j < d → proper (getD (set ms r (byteOf m)) j 0) ≡ true
   tidy-set quiet tidy j lt = at (cases-eq j r)
     where
       at : (j ≡ r) ⊎ (j ≡ r → ⊥) → proper (getD (set ms r (byteOf m)) j 0) ≡ true
@@ -48,14 +48,14 @@ module _ (ms : List ℕ) (d r : ℕ) (m : Marks) (held : d ≤ length ms) (withi
 
   -- the row's marks alone
   pub rows-marked : (ws : List ℕ) (k : ℕ) (f : Row → Row) → record { words = take k (drop (r * k) ws); marks = m } ≡ f (rowIn ws ms k r)
-    → rowsOf ws (set ms r (byteOf m)) k d ≡ change r f (rowsOf ws ms k d)
+      → rowsOf ws (set ms r (byteOf m)) k d ≡ change r f (rowsOf ws ms k d)
   rows-marked ws k f e = rows-change ws ms ws (set ms r (byteOf m)) k d f r within
       (rw marks-here e)
       (λ j lt ne. rw (getD-set-other ms r j (byteOf m) 0 ne))
 
   -- a word and the marks
   pub rows-written : (ws : List ℕ) (k s v : ℕ) (f : Row → Row) → s < k → record { words = set (take k (drop (r * k) ws)) s v; marks = m } ≡ f (rowIn ws ms k r)
-    → rowsOf (set ws (r * k + s) v) (set ms r (byteOf m)) k d ≡ change r f (rowsOf ws ms k d)
+      → rowsOf (set ws (r * k + s) v) (set ms r (byteOf m)) k d ≡ change r f (rowsOf ws ms k d)
   rows-written ws k s v f in-row e = rows-change ws ms (set ws (r * k + s) v) (set ms r (byteOf m)) k d f r within
       (rw (marks-here, words-here ws k r s v in-row) e)
       (λ j lt ne. rw (getD-set-other ms r j (byteOf m) 0 ne, words-other ws k r s v j in-row ne))

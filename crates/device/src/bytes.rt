@@ -7,7 +7,9 @@ use table::Marking;
 use table::Marks;
 
 pub(crate) const EMPTY: u8 = 0x80;
+
 pub(crate) const ACCESS: u8 = 0x40;
+
 pub(crate) const HIT: u8 = 0x20;
 
 pub(crate) fn unpack(byte: u8) -> Marks
@@ -37,7 +39,11 @@ pub(crate) fn written(segment: u32, marks: Marks) -> Marks
     ensures answer { λ r. ⌜ r ≡ marksWritten segment marks ⌝ }
 {
     if segment == 0 {
-        Marks { empty: false, access: marks.access, hit: marks.hit }
+        Marks {
+            empty: false,
+            access: marks.access,
+            hit: marks.hit,
+        }
     } else {
         marks
     }
@@ -47,5 +53,9 @@ pub(crate) fn written(segment: u32, marks: Marks) -> Marks
 pub(crate) fn given(marking: Marking, marks: Marks) -> Marks
     ensures answer { λ r. ⌜ r ≡ marksGiven marking marks ⌝ }
 {
-    Marks { empty: marking.empty, access: marking.access, hit: marks.hit & !marking.empty }
+    Marks {
+        empty: marking.empty,
+        access: marking.access,
+        hit: marks.hit & !marking.empty,
+    }
 }

@@ -3,9 +3,9 @@ ghost use mathlib.Core.Path.{_≡_};
 ghost use lib.ListN.{length};
 ghost use Rattle.device.specs.Opening.{checked, numberOf, placeOf};
 ghost use Rattle.device.specs.Rows.{Opened};
-use table::Place;
 use crate::bytes::EMPTY;
 use crate::device::Device;
+use table::Place;
 
 pub const CELLS: usize = 8192;
 
@@ -56,10 +56,20 @@ impl<'a> Device<'a> {
         ensures memory { λ r. ⌜ Opened width (words .entry) (marks .entry) r ⌝ }
     {
         if Device::check(width, words, marks).is_err() {
-            return Device { words, marks, width: 1, depth: 0 };
+            return Device {
+                words,
+                marks,
+                width: 1,
+                depth: 0,
+            };
         }
         words.fill(0);
         marks.fill(EMPTY);
-        Device { words, marks, width, depth: 4 * (2048 / width) }
+        Device {
+            words,
+            marks,
+            width,
+            depth: 4 * (2048 / width),
+        }
     }
 }

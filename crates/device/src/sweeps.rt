@@ -6,14 +6,14 @@ ghost use mathlib.Core.Path.{_≡_};
 ghost use Rattle.device.specs.Layout.{byteOf, marksOf, proper, remarked};
 ghost use Rattle.device.specs.Sweeps.{marksSwept};
 ghost use Rattle.table.specs.Row.{marksSearched};
-use table::Marks;
-use table::Search;
 use crate::bytes::ACCESS;
 use crate::bytes::EMPTY;
 use crate::bytes::HIT;
 use crate::bytes::flag;
 use crate::bytes::pack;
 use crate::bytes::unpack;
+use table::Marks;
+use table::Search;
 
 #[derive(Clone, Copy)]
 pub(crate) enum Sweep {
@@ -22,7 +22,11 @@ pub(crate) enum Sweep {
     Reset,
 }
 
-const CLEARED: Marks = Marks { empty: true, access: false, hit: false };
+const CLEARED: Marks = Marks {
+    empty: true,
+    access: false,
+    hit: false,
+};
 
 fn swept(how: Sweep, marks: Marks) -> Marks
     ensures answer { λ r. ⌜ r ≡ marksSwept how marks ⌝ }
@@ -31,7 +35,11 @@ fn swept(how: Sweep, marks: Marks) -> Marks
         Sweep::Purge(table::Purge::All) => !marks.empty,
         Sweep::Purge(table::Purge::WithAccess) => !marks.empty & marks.access,
         Sweep::Purge(table::Purge::WithoutAccess) => !marks.empty & !marks.access,
-        Sweep::ClearAccess => return Marks { empty: marks.empty, access: false, hit: marks.hit },
+        Sweep::ClearAccess => return Marks {
+            empty: marks.empty,
+            access: false,
+            hit: marks.hit,
+        },
         Sweep::Reset => true,
     };
     if gone { CLEARED } else { marks }

@@ -60,10 +60,10 @@ kept-all : (e a h hit more : Bool) → kept e a h hit more ≡ true
 unfolding every
 kept-all e a h hit more =
     every-at (λ x. kept e a h hit x) (every-at (λ y. every (λ x. kept e a h y x)) (every-at (λ z. every (λ y. every (λ x. kept e a z y x)))
-      (every-at (λ u. every (λ z. every (λ y. every (λ x. kept e u z y x)))) (every-at (λ v. every (λ u. every (λ z. every (λ y. every (λ x. kept v u z y x))))) refl e) a) h) hit) more
+    (every-at (λ u. every (λ z. every (λ y. every (λ x. kept e u z y x)))) (every-at (λ v. every (λ u. every (λ z. every (λ y. every (λ x. kept v u z y x))))) refl e) a) h) hit) more
 
 pub byte-searched : (b : ℕ) (hit more : Bool) → proper b ≡ true
-  → bitOr (bitOr (bitAnd b 192) (cond hit 32 0)) (cond more 64 0) ≡ byteOf record { empty = marksOf b .empty; access = marksOf b .access || more; hit = hit }
+    → bitOr (bitOr (bitAnd b 192) (cond hit 32 0)) (cond more 64 0) ≡ byteOf record { empty = marksOf b .empty; access = marksOf b .access || more; hit = hit }
 byte-searched b hit more h =
     ap (λ x. bitOr (bitOr (bitAnd x 192) (cond hit 32 0)) (cond more 64 0)) (sym (byteOf-marksOf b h))
     ∙ eqb-true _ _ (kept-all (marksOf b .empty) (marksOf b .access) (marksOf b .hit) hit more)

@@ -39,31 +39,31 @@ wordsOf-rows ws ms k (suc d) =
     ∙ sym (rw (suc-mul d k) (take-add (d * k) k ws))
 
 pub bytesOf-rows : (ws ms : List ℕ) (k d : ℕ) → d ≤ length ms → ((r : ℕ) → r < d → proper (getD ms r 0) ≡ true)
-  → bytesOf (rowsOf ws ms k d) ≡ take d ms
+    → bytesOf (rowsOf ws ms k d) ≡ take d ms
 unfolding bytesOf
 bytesOf-rows ws ms k d held tidy = ext-getD 0 _ _
     (length-map (rowsOf ws ms k d) _ ∙ length-rows ws ms k d ∙ sym (length-take-le d ms held))
     (λ r h. let low : r < length (rowsOf ws ms k d) = rw (length-map (rowsOf ws ms k d) (λ (row : Row). byteOf (row .marks))) at h in
-      let lt : r < d = rw (length-rows ws ms k d) at low in
-      getD-map (λ row. byteOf (row .marks)) (rowsOf ws ms k d) r blank 0 low
-      ∙ ap (λ row. byteOf (row .marks)) (rowAt-rows ws ms k d r lt)
-      ∙ byteOf-marksOf (getD ms r 0) (tidy r lt) ∙ sym (getD-take d ms r 0 lt))
+    let lt : r < d = rw (length-rows ws ms k d) at low in
+    getD-map (λ row. byteOf (row .marks)) (rowsOf ws ms k d) r blank 0 low
+    ∙ ap (λ row. byteOf (row .marks)) (rowAt-rows ws ms k d r lt)
+    ∙ byteOf-marksOf (getD ms r 0) (tidy r lt) ∙ sym (getD-take d ms r 0 lt))
 
 -- what has the same lenders, the same shape and the same cells past the rows
 pub framed : (a b : Device) → name (b .words) ≡ name (a .words) → name (b .marks) ≡ name (a .marks) → b .width ≡ a .width → b .depth ≡ a .depth
-  → drop (b .depth * b .width) (now (b .words)) ≡ drop (a .depth * a .width) (now (a .words))
-  → drop (b .depth) (now (b .marks)) ≡ drop (a .depth) (now (a .marks)) → Frame a b
+    → drop (b .depth * b .width) (now (b .words)) ≡ drop (a .depth * a .width) (now (a .words))
+    → drop (b .depth) (now (b .marks)) ≡ drop (a .depth) (now (a .marks)) → Frame a b
 framed a b nameWords nameMarks width depth words marks = record {
   lentWords = nameWords;
   lentMarks = nameMarks;
   width = width;
   depth = depth;
   words = sym (take-append-drop (b .depth * b .width) (now (b .words)))
-    ∙ ap (λ xs. xs ++ drop (b .depth * b .width) (now (b .words))) (sym (wordsOf-rows (now (b .words)) (now (b .marks)) (b .width) (b .depth)))
-    ∙ ap (λ xs. wordsOf (rowsIn b) ++ xs) words;
+      ∙ ap (λ xs. xs ++ drop (b .depth * b .width) (now (b .words))) (sym (wordsOf-rows (now (b .words)) (now (b .marks)) (b .width) (b .depth)))
+      ∙ ap (λ xs. wordsOf (rowsIn b) ++ xs) words;
   marks = sym (take-append-drop (b .depth) (now (b .marks)))
-    ∙ ap (λ xs. xs ++ drop (b .depth) (now (b .marks))) (sym (bytesOf-rows (now (b .words)) (now (b .marks)) (b .width) (b .depth) (b .marked) (b .tidy)))
-    ∙ ap (λ xs. bytesOf (rowsIn b) ++ xs) marks;
+      ∙ ap (λ xs. xs ++ drop (b .depth) (now (b .marks))) (sym (bytesOf-rows (now (b .words)) (now (b .marks)) (b .width) (b .depth) (b .marked) (b .tidy)))
+      ∙ ap (λ xs. bytesOf (rowsIn b) ++ xs) marks;
 }
 
 pub frame-same : (a : Device) → Frame a a
@@ -74,13 +74,13 @@ rest-words : (a b : Device) → Frame a b → drop (b .depth * b .width) (now (b
 rest-words a b f =
     ap (drop (b .depth * b .width)) (f .words)
     ∙ drop-at (wordsOf (rowsIn b)) _ (b .depth * b .width)
-      (ap length (wordsOf-rows (now (b .words)) (now (b .marks)) (b .width) (b .depth)) ∙ length-take-le (b .depth * b .width) (now (b .words)) (b .worded))
+    (ap length (wordsOf-rows (now (b .words)) (now (b .marks)) (b .width) (b .depth)) ∙ length-take-le (b .depth * b .width) (now (b .words)) (b .worded))
 
 rest-marks : (a b : Device) → Frame a b → drop (b .depth) (now (b .marks)) ≡ drop (a .depth) (now (a .marks))
 rest-marks a b f =
     ap (drop (b .depth)) (f .marks)
     ∙ drop-at (bytesOf (rowsIn b)) _ (b .depth)
-      (ap length (bytesOf-rows (now (b .words)) (now (b .marks)) (b .width) (b .depth) (b .marked) (b .tidy)) ∙ length-take-le (b .depth) (now (b .marks)) (b .marked))
+    (ap length (bytesOf-rows (now (b .words)) (now (b .marks)) (b .width) (b .depth) (b .marked) (b .tidy)) ∙ length-take-le (b .depth) (now (b .marks)) (b .marked))
 
 pub frame-chain : (a b c : Device) → Frame a b → Frame b c → Frame a c
 frame-chain a b c f g = framed a c (g .lentWords ∙ f .lentWords) (g .lentMarks ∙ f .lentMarks) (g .width ∙ f .width) (g .depth ∙ f .depth)

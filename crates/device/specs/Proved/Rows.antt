@@ -62,17 +62,17 @@ module _ (ws ms vs ns : List ℕ) (k d : ℕ) where
   rows-map g each = ext-getD blank _ _
       (length-rows vs ns k d ∙ sym (length-map (rowsOf ws ms k d) g ∙ length-rows ws ms k d))
       (λ r h. let lt : r < d = rw (length-rows vs ns k d) at h in
-        let low : r < length (rowsOf ws ms k d) = rw (length-rows ws ms k d) lt in
-        rowAt-rows vs ns k d r lt ∙ each r lt ∙ ap g (sym (rowAt-rows ws ms k d r lt))
-        ∙ sym (getD-map g (rowsOf ws ms k d) r blank blank low))
+      let low : r < length (rowsOf ws ms k d) = rw (length-rows ws ms k d) lt in
+      rowAt-rows vs ns k d r lt ∙ each r lt ∙ ap g (sym (rowAt-rows ws ms k d r lt))
+      ∙ sym (getD-map g (rowsOf ws ms k d) r blank blank low))
 
   -- one row changed
   pub rows-change : (f : Row → Row) (r : ℕ) → r < d → rowIn vs ns k r ≡ f (rowIn ws ms k r)
-    → ((j : ℕ) → j < d → j ≢ r → rowIn vs ns k j ≡ rowIn ws ms k j) → rowsOf vs ns k d ≡ change r f (rowsOf ws ms k d)
+      → ((j : ℕ) → j < d → j ≢ r → rowIn vs ns k j ≡ rowIn ws ms k j) → rowsOf vs ns k d ≡ change r f (rowsOf ws ms k d)
   rows-change f r within here others = ext-getD blank _ _
       (length-rows vs ns k d ∙ sym (length-change f (rowsOf ws ms k d) r ∙ length-rows ws ms k d))
       (λ j h. let lt : j < d = rw (length-rows vs ns k d) at h in
-        rowAt-rows vs ns k d j lt ∙ at j lt (cases-eq j r))
+      rowAt-rows vs ns k d j lt ∙ at j lt (cases-eq j r))
     where
       at : (j : ℕ) → j < d → (j ≡ r) ⊎ (j ≡ r → ⊥) → rowIn vs ns k j ≡ rowAt (change r f (rowsOf ws ms k d)) j
       at j lt (inl e) =

@@ -20,7 +20,7 @@ index-words-row c =
 pub offset-words-row : need.offset-words-row
 offset-words-row c =
     let low : c .loop-row .row * c .args .width + c .args .query .segment < length (c .args .words .now) =
-      omega (arith, mul-add-lt (c .loop-row .row) (c .args .width) (c .args .query .segment) (c .args .depth) (c .loop-row-test .taken) (c .pre .within)) in
+    omega (arith, mul-add-lt (c .loop-row .row) (c .args .width) (c .args .query .segment) (c .args .depth) (c .loop-row-test .taken) (c .pre .within)) in
     search needs
 
 pub compared-requires : need.compared-requires
@@ -38,5 +38,5 @@ loop-row-again c =
     let lt : row < length ms = omega (arith, c .pre .marked) in
     let old : getD (c .loop-row .marks) row 0 ≡ getD ms row 0 = ap (λ xs. getD xs row 0) (c .loop-row .inv) ∙ getD-remarked h ms row lt in
     let new : c .compared .result ≡ byteOf (h row (marksOf (getD ms row 0))) =
-      c .compared .ensures .answer ∙ ap (λ b. byteOf (h row (marksOf b))) old in
+    c .compared .ensures .answer ∙ ap (λ b. byteOf (h row (marksOf b))) old in
     ap (λ xs. set xs row (c .compared .result)) (c .loop-row .inv) ∙ remarked-more h ms row (c .compared .result) lt new

@@ -17,5 +17,5 @@ loop-row-again c =
     let lt : row < length ms = omega arith in
     let old : getD (c .loop-row .marks) row 0 ≡ getD ms row 0 = ap (λ xs. getD xs row 0) (c .loop-row .inv) ∙ getD-remarked (λ _. marksSwept (c .args .how)) ms row lt in
     let new : c .pack .result ≡ byteOf (marksSwept (c .args .how) (marksOf (getD ms row 0))) =
-      c .pack .ensures .answer ∙ ap byteOf (c .swept .ensures .answer ∙ ap (marksSwept (c .args .how)) (c .unpack .ensures .answer ∙ ap marksOf old)) in
+    c .pack .ensures .answer ∙ ap byteOf (c .swept .ensures .answer ∙ ap (marksSwept (c .args .how)) (c .unpack .ensures .answer ∙ ap marksOf old)) in
     ap (λ xs. set xs row (c .pack .result)) (c .loop-row .inv) ∙ remarked-more (λ _. marksSwept (c .args .how)) ms row (c .pack .result) lt new

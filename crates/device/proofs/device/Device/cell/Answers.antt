@@ -16,5 +16,5 @@ pub returns : need.returns
 returns c =
     let d = c .args .self .now in
     let low : c .args .row * d .width + c .args .segment < length (d .words .now) =
-      omega (arith, mul-add-lt (c .args .row) (d .width) (c .args .segment) (d .depth) (omega arith) (omega arith)) in
+    omega (arith, mul-add-lt (c .args .row) (d .width) (c .args .segment) (d .depth) (omega arith) (omega arith)) in
     search (needs, place-granted)

@@ -13,11 +13,13 @@ returns c =
     let n = length (c .args .words .now) in
     let m = length (c .args .marks .now) in
     let passed : isErr (checked w n m) ≡ false = search needs in
-    record { memory = record {
-      lentWords = search needs;
-      lentMarks = search needs;
-      width = granted-new (checked w n m) _ _ passed;
-      depth = granted-new (checked w n m) _ _ passed;
-      words = c .fill .ensures .after (λ y e. e) ∙ granted-new (checked w n m) _ _ passed;
-      marks = c .fill-2 .ensures .after (λ y e. e) ∙ granted-new (checked w n m) _ _ passed;
-    } }
+    record {
+      memory = record {
+        lentWords = search needs;
+        lentMarks = search needs;
+        width = granted-new (checked w n m) _ _ passed;
+        depth = granted-new (checked w n m) _ _ passed;
+        words = c .fill .ensures .after (λ y e. e) ∙ granted-new (checked w n m) _ _ passed;
+        marks = c .fill-2 .ensures .after (λ y e. e) ∙ granted-new (checked w n m) _ _ passed;
+      };
+    }

@@ -14,9 +14,22 @@ pub ghost-result : need.ghost-result
 ghost-result c =
     let d = c .args .self in
     let ms = d .marks .now in
-    let h : ℕ → Marks → Marks = λ r. marksSearched (c .args .query) (getD (d .words .now) (r * d .width + c .args .query .segment) 0) in
-    (d .some, (d .narrow, (d .few, (d .worded, (rw (c .compare .ensures .memory, length-remarked h ms (d .depth) (d .marked)) (d .marked),
-      (rw (c .compare .ensures .memory) (tidy-remarked h ms (d .depth) (λ r lt. quiet-searched (c .args .query) _ (marksOf (getD ms r 0)))), tt))))))
+    let h : ℕ → Marks → Marks = λ r. marksSearched (c .args .query) (getD (d .words .now) (r * d .width + c .args .query .segment) 0) in (
+      d .some,
+      (
+        d .narrow,
+        (
+          d .few,
+          (
+            d .worded,
+            (
+              rw (c .compare .ensures .memory, length-remarked h ms (d .depth) (d .marked)) (d .marked),
+              (rw (c .compare .ensures .memory) (tidy-remarked h ms (d .depth) (λ r lt. quiet-searched (c .args .query) _ (marksOf (getD ms r 0)))), tt),
+            ),
+          ),
+        ),
+      ),
+    )
 
 pub returns : need.returns
 returns c =
@@ -26,7 +39,7 @@ returns c =
     let q = c .args .query in
     let h : ℕ → Marks → Marks = λ r. marksSearched q (getD ws (r * d .width + q .segment) 0) in
     let word : (r : ℕ) → getD (take (d .width) (drop (r * d .width) ws)) (q .segment) 0 ≡ getD ws (r * d .width + q .segment) 0 =
-      λ r. getD-take (d .width) (drop (r * d .width) ws) (q .segment) 0 (c .pre .within) ∙ getD-drop (r * d .width) ws (q .segment) 0 in
+    λ r. getD-take (d .width) (drop (r * d .width) ws) (q .segment) 0 (c .pre .within) ∙ getD-drop (r * d .width) ws (q .segment) 0 in
     let row : ℕ → ℕ → Row = λ r v. record { words = take (d .width) (drop (r * d .width) ws); marks = marksSearched q v (marksOf (getD ms r 0)) } in
     record {
       rows = rw (c .compare .ensures .memory) (rows-remarked h ms ws (d .width) (d .depth) (searched q) (λ r lt. ap (row r) (sym (word r))));

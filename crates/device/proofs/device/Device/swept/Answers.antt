@@ -14,10 +14,26 @@ pub ghost-result : need.ghost-result
 ghost-result c =
     let d = c .args .self in
     let ms = d .marks .now in
-    let h : ℕ → Marks → Marks = λ _. marksSwept (c .args .how) in
-    (d .some, (d .narrow, (d .few, (d .worded, (rw (c .pass-over .ensures .memory, length-remarked h ms (d .depth) (d .marked)) (d .marked),
-      (rw (c .pass-over .ensures .memory) (tidy-remarked h ms (d .depth)
-        (λ r lt. quiet-swept (c .args .how) (marksOf (getD ms r 0)) (quiet-marksOf (getD ms r 0) (d .tidy r lt)))), tt))))))
+    let h : ℕ → Marks → Marks = λ _. marksSwept (c .args .how) in (
+      d .some,
+      (
+        d .narrow,
+        (
+          d .few,
+          (
+            d .worded,
+            (
+              rw (c .pass-over .ensures .memory, length-remarked h ms (d .depth) (d .marked)) (d .marked),
+              (
+                rw (c .pass-over .ensures .memory) (tidy-remarked h ms (d .depth)
+                    (λ r lt. quiet-swept (c .args .how) (marksOf (getD ms r 0)) (quiet-marksOf (getD ms r 0) (d .tidy r lt)))),
+                tt,
+              ),
+            ),
+          ),
+        ),
+      ),
+    )
 
 pub returns : need.returns
 returns c =

@@ -11,7 +11,7 @@ use Rattle.device.proofs.Writes.{rows-marked, tidy-set}
 use Rattle.device.specs.Layout.{byteOf, marksOf}
 use Rattle.device.specs.Proved.Memory.{frame-same, framed}
 use Rattle.device.specs.Proved.Rows.{line-granted}
-use Rattle.device.proofs.table.DeviceTable.set_marks.Needs as need
+use Rattle.device.proofs.as_table.DeviceTable.set_marks.Needs as need
 
 pub returns-in-Break-line : need.returns-in-Break-line
 returns-in-Break-line c =
@@ -23,9 +23,22 @@ ghost-self c =
     let d = c .args .self .now in
     let at = c .in-Continue-line .ensures tt .within in
     let m = marksGiven (c .args .marking) (c .unpack .result) in
-    let stored : c .pack .result ≡ byteOf m = c .pack .ensures .answer ∙ ap byteOf (c .given-marks .ensures .answer) in
-    (d .some, (d .narrow, (d .few, (d .worded, (simp length-set (d .marked),
-      (λ r h. rw (stored, at .0) (tidy-set (d .marks .now) (d .depth) (c .args .row) m (d .marked) (at .1) (quiet-given (c .args .marking) (c .unpack .result)) (d .tidy) r h), tt))))))
+    let stored : c .pack .result ≡ byteOf m = c .pack .ensures .answer ∙ ap byteOf (c .given-marks .ensures .answer) in (
+      d .some,
+      (
+        d .narrow,
+        (
+          d .few,
+          (
+            d .worded,
+            (
+              simp length-set (d .marked),
+              (λ r h. rw (stored, at .0) (tidy-set (d .marks .now) (d .depth) (c .args .row) m (d .marked) (at .1) (quiet-given (c .args .marking) (c .unpack .result)) (d .tidy) r h), tt),
+            ),
+          ),
+        ),
+      ),
+    )
 
 pub returns : need.returns
 returns c =

@@ -1,7 +1,7 @@
 use mathlib.Core.Path.{refl}
 use Rattle.device.proofs.FirstRow.{first-rows}
 use Rattle.table.specs.Row.{isEmpty}
-use Rattle.device.proofs.table.DeviceTable.first_empty.Needs as need
+use Rattle.device.proofs.as_table.DeviceTable.first_empty.Needs as need
 
 pub returns : need.returns
 returns c =

@@ -1,7 +1,7 @@
 use mathlib.Core.Path.{refl}
 use Rattle.device.specs.Proved.Memory.{frame-same}
 use Rattle.table.proofs.Checks.{segment-granted, segment-refused}
-use Rattle.device.proofs.table.DeviceTable.search.Needs as need
+use Rattle.device.proofs.as_table.DeviceTable.search.Needs as need
 
 pub returns-then-query-self : need.returns-then-query-self
 returns-then-query-self c = record {

@@ -5,7 +5,7 @@ use Rattle.std.specs.declared.result.Result.the-variants.{Ok}
 use Rattle.table.proofs.Refusals.{row-alike}
 use Rattle.device.specs.Layout.{marksOf}
 use Rattle.device.specs.Proved.Rows.{line-granted, marksAt-rows}
-use Rattle.device.proofs.table.DeviceTable.marks.Needs as need
+use Rattle.device.proofs.as_table.DeviceTable.marks.Needs as need
 
 pub returns-in-Break-line : need.returns-in-Break-line
 returns-in-Break-line c =
@@ -17,5 +17,7 @@ returns c =
     let d = c .args .self .now in
     let at = c .in-Continue-line .ensures tt .within in
     let told = marksAt-rows (d .words .now) (d .marks .now) (d .width) (d .depth) (c .args .row) (at .1) in
-    record { answer = ap Ok (c .unpack .ensures .answer ∙ ap (λ i. marksOf (getD (d .marks .now) i 0)) (at .0) ∙ sym told)
-      ∙ line-granted (d .words .now) (d .marks .now) (d .width) (d .depth) (c .args .row) _ (at .1) }
+    record {
+      answer = ap Ok (c .unpack .ensures .answer ∙ ap (λ i. marksOf (getD (d .marks .now) i 0)) (at .0) ∙ sym told)
+          ∙ line-granted (d .words .now) (d .marks .now) (d .width) (d .depth) (c .args .row) _ (at .1);
+    }

@@ -2,7 +2,7 @@ use mathlib.Core.Path.{_≡_, sym, ap}
 use Prim.Native.Nat.{ℕ}
 use Rattle.device.specs.Proved.Rows.{length-rows}
 use Rattle.table.specs.declared.parts.Shape.{Shape}
-use Rattle.device.proofs.table.DeviceTable.shape.Needs as need
+use Rattle.device.proofs.as_table.DeviceTable.shape.Needs as need
 
 pub returns : need.returns
 returns c =

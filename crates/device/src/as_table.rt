@@ -9,13 +9,6 @@ ghost use Rattle.device.specs.Sweeps.{rowSwept};
 ghost use Rattle.std.specs.Vec.{made};
 ghost use Rattle.table.specs.Calls.{onCell, onRow};
 ghost use Rattle.table.specs.Row.{searched as rowSearched};
-use table::Marking;
-use table::Marks;
-use table::Purge;
-use table::Search;
-use table::Shape;
-use table::Table;
-use table::TableFault;
 use crate::bytes::EMPTY;
 use crate::bytes::HIT;
 use crate::bytes::given;
@@ -27,11 +20,23 @@ use crate::halves::first_between;
 use crate::sweeps::Sweep;
 use crate::sweeps::compare;
 use crate::sweeps::pass_over;
+use table::Marking;
+use table::Marks;
+use table::Purge;
+use table::Search;
+use table::Shape;
+use table::Table;
+use table::TableFault;
 
 impl<'a> Device<'a> {
     // A device with no rows and no memory.
     fn none() -> Device<'a> {
-        Device { words: &mut [], marks: &mut [], width: 1, depth: 0 }
+        Device {
+            words: &mut [],
+            marks: &mut [],
+            width: 1,
+            depth: 0,
+        }
     }
 
     // The device after a search whose segment it has.
@@ -40,9 +45,19 @@ impl<'a> Device<'a> {
         ensures rows { λ r. ⌜ rowsIn r ≡ map (rowSearched query) (rowsIn (self .entry)) ⌝ }
         ensures frame { λ r. ⌜ Frame (self .entry) r ⌝ }
     {
-        let Device { words, marks, width, depth } = self;
+        let Device {
+            words,
+            marks,
+            width,
+            depth,
+        } = self;
         compare(words, marks, width as usize, depth as usize, query);
-        Device { words, marks, width, depth }
+        Device {
+            words,
+            marks,
+            width,
+            depth,
+        }
     }
 
     // The device after its marks were changed, those of every row alike.
@@ -50,9 +65,19 @@ impl<'a> Device<'a> {
         ensures rows { λ r. ⌜ rowsIn r ≡ map (rowSwept how) (rowsIn (self .entry)) ⌝ }
         ensures frame { λ r. ⌜ Frame (self .entry) r ⌝ }
     {
-        let Device { words, marks, width, depth } = self;
+        let Device {
+            words,
+            marks,
+            width,
+            depth,
+        } = self;
         pass_over(marks, depth as usize, how);
-        Device { words, marks, width, depth }
+        Device {
+            words,
+            marks,
+            width,
+            depth,
+        }
     }
 
     // The place of a row's marks.
@@ -104,7 +129,10 @@ pub impl Table for Device<'_> as DeviceTable {
     ghost chain = { frame-chain };
 
     fn shape(&self) -> Shape {
-        Shape { width: self.width, depth: self.depth }
+        Shape {
+            width: self.width,
+            depth: self.depth,
+        }
     }
 
     fn read(&self, row: u32, segment: u32) -> Result<u32, TableFault> {

@@ -4,7 +4,7 @@ use Rattle.std.proofs.shelf.Results.{err-from-errBy}
 use Rattle.table.proofs.Refusals.{cell-alike}
 use Rattle.device.specs.Proved.Rows.{place-granted, wordAt-rows}
 use Rattle.std.specs.declared.result.Result.the-variants.{Ok}
-use Rattle.device.proofs.table.DeviceTable.read.Needs as need
+use Rattle.device.proofs.as_table.DeviceTable.read.Needs as need
 
 pub returns-in-Break-at : need.returns-in-Break-at
 returns-in-Break-at c =
@@ -16,5 +16,7 @@ returns c =
     let d = c .args .self .now in
     let at = c .in-Continue-at .ensures tt .within in
     let word = wordAt-rows (d .words .now) (d .marks .now) (d .width) (d .depth) (c .args .row) (c .args .segment) (at .1) (at .2) in
-    record { answer = ap Ok (ap (λ i. getD (d .words .now) i 0) (at .0) ∙ sym word)
-      ∙ place-granted (d .words .now) (d .marks .now) (d .width) (d .depth) (c .args .row) (c .args .segment) _ (at .1) (at .2) }
+    record {
+      answer = ap Ok (ap (λ i. getD (d .words .now) i 0) (at .0) ∙ sym word)
+          ∙ place-granted (d .words .now) (d .marks .now) (d .width) (d .depth) (c .args .row) (c .args .segment) _ (at .1) (at .2);
+    }

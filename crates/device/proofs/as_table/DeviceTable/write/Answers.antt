@@ -13,7 +13,7 @@ use Rattle.device.specs.Layout.{byteOf, marksOf}
 use Rattle.device.specs.Proved.Marks.{quiet-marksOf}
 use Rattle.device.specs.Proved.Rows.{place-granted}
 use Rattle.device.specs.Proved.Memory.{frame-same, framed}
-use Rattle.device.proofs.table.DeviceTable.write.Needs as need
+use Rattle.device.proofs.as_table.DeviceTable.write.Needs as need
 
 pub returns-in-Break-at : need.returns-in-Break-at
 returns-in-Break-at c =
@@ -27,9 +27,22 @@ ghost-self-2 c =
     let old = getD (d .marks .now) (c .args .row) 0 in
     let m = marksWritten (c .args .segment) (marksOf old) in
     let stored : c .pack .result ≡ byteOf m = c .pack .ensures .answer ∙ ap byteOf (c .written-marks .ensures .answer ∙ ap (marksWritten (c .args .segment)) (c .unpack .ensures .answer)) in
-    let quiet = quiet-written (c .args .segment) (marksOf old) (quiet-marksOf old (d .tidy (c .args .row) (at .1))) in
-    (d .some, (d .narrow, (d .few, (simp length-set (d .worded), (simp length-set (d .marked),
-      (λ r h. rw stored (tidy-set (d .marks .now) (d .depth) (c .args .row) m (d .marked) (at .1) quiet (d .tidy) r h), tt))))))
+    let quiet = quiet-written (c .args .segment) (marksOf old) (quiet-marksOf old (d .tidy (c .args .row) (at .1))) in (
+      d .some,
+      (
+        d .narrow,
+        (
+          d .few,
+          (
+            simp length-set (d .worded),
+            (
+              simp length-set (d .marked),
+              (λ r h. rw stored (tidy-set (d .marks .now) (d .depth) (c .args .row) m (d .marked) (at .1) quiet (d .tidy) r h), tt),
+            ),
+          ),
+        ),
+      ),
+    )
 
 pub returns : need.returns
 returns c =
@@ -43,6 +56,6 @@ returns c =
       rows = rw (stored, at .0) (rows-written (d .marks .now) (d .depth) (c .args .row) m (d .marked) (at .1) (d .words .now) (d .width) (c .args .segment) (c .args .word) (written (c .args .segment) (c .args .word)) (at .2) refl);
       width = refl;
       frame = framed _ _ refl refl refl refl
-        (rw (at .0) (drop-set-lt (d .depth * d .width) (d .words .now) (c .args .row * d .width + c .args .segment) (c .args .word) low))
-        (drop-set-lt (d .depth) (d .marks .now) (c .args .row) _ (at .1));
+          (rw (at .0) (drop-set-lt (d .depth * d .width) (d .words .now) (c .args .row * d .width + c .args .segment) (c .args .word) low))
+          (drop-set-lt (d .depth) (d .marks .now) (c .args .row) _ (at .1));
     }
