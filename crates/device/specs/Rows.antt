@@ -1,7 +1,7 @@
 -- A device as a table: its width and rows, and the memory that its owner gets back. Assumes nothing.
 use Prim.Native.Nat.{ℕ, _*_}
 use mathlib.Core.Bool.{cond}
-use mathlib.Core.List.{List, _++_, map}
+use mathlib.Core.List.{List, [], _++_, map}
 use mathlib.Core.Path.{_≡_}
 use denote.Ref.{RefT, name, now}
 use lib.ListN.{length, drop, replicate}
@@ -10,7 +10,7 @@ use Rattle.std.specs.shelf.Lists.{joined}
 use Rattle.device.specs.Opening.{checked, depthAt}
 use Rattle.device.specs.declared.device.Device.{Device}
 use Rattle.table.specs.Calls.{granted}
-use Rattle.table.specs.Row.{Row}
+use Rattle.table.specs.Row.{Row, cleared}
 
 abbrev pub widthIn : Device → ℕ
 widthIn d = d .width
@@ -35,6 +35,10 @@ pub record Frame (a b : Device) : Type 0 where
   pub words : now (b .words) ≡ wordsOf (rowsIn b) ++ drop (a .depth * a .width) (now (a .words))
   pub marks : now (b .marks) ≡ bytesOf (rowsIn b) ++ drop (a .depth) (now (a .marks))
 
+-- a row as a device opens with it
+abbrev pub newRow : ℕ → Row
+newRow w = record { words = replicate w 0; marks = cleared }
+
 -- a new device of a width over lent words and mark bytes
 pub record Opened (w : ℕ) (ws ms : RefT (List ℕ)) (d : Device) : Type 0 where
   pub lentWords : name (d .words) ≡ name ws
@@ -43,3 +47,4 @@ pub record Opened (w : ℕ) (ws ms : RefT (List ℕ)) (d : Device) : Type 0 wher
   pub depth : d .depth ≡ granted (checked w (length (now ws)) (length (now ms))) (depthAt w) 0
   pub words : now (d .words) ≡ granted (checked w (length (now ws)) (length (now ms))) (replicate (length (now ws)) 0) (now ws)
   pub marks : now (d .marks) ≡ granted (checked w (length (now ws)) (length (now ms))) (replicate (length (now ms)) 128) (now ms)
+  pub rows : rowsIn d ≡ granted (checked w (length (now ws)) (length (now ms))) (replicate (depthAt w) (newRow w)) []

@@ -9,3 +9,5 @@ mod sweeps;
 pub use as_table::DeviceTable;
 pub use device::Device;
 pub use opening::OpenFault;
+pub use opening::OpenFaultDebug;
+pub use opening::OpenFaultPartialEq;

@@ -10,6 +10,11 @@ fn place_name(place: Place) -> &'static str {
     match place {
         Place::Opening => "opening",
         Place::Table => "table",
+        Place::Command => "command",
+        Place::SetUp => "set-up",
+        Place::Start => "start",
+        Place::Port => "port",
+        Place::Flags => "flags",
     }
 }
 

@@ -7,6 +7,11 @@ ghost use Rattle.table.specs.Faults.{numberOf, placeOf};
 pub enum Place {
     Opening,
     Table,
+    Command,
+    SetUp,
+    Start,
+    Port,
+    Flags,
 }
 
 // A table's refusal, with the row or the segment that was asked for.
