@@ -1,0 +1,5 @@
+pub mod BitLaws
+pub mod Agreement
+pub mod Words
+pub mod LaidOut
+pub mod RowLaws
