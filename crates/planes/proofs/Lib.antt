@@ -3,3 +3,4 @@ pub mod Agreement
 pub mod Words
 pub mod LaidOut
 pub mod RowLaws
+pub mod MarkLaws
