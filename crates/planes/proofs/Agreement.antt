@@ -54,7 +54,7 @@ module _ (key mask word : ℕ) where
   same-to (suc n) e k h =
       let p = or-parts (differTo key mask word n) (differ (bitOf word n) (bitOf key n) (bitOf mask n)) e in
       ⊎-elim (same-to n (p .0) k) (λ l. let s : k ≡ n = omega arith in rw s
-        (bitOf-or key mask n ∙ agree-bit (bitOf word n) (bitOf key n) (bitOf mask n) (p .1) ∙ sym (bitOf-or word mask n))) (cases-lt k n)
+      (bitOf-or key mask n ∙ agree-bit (bitOf word n) (bitOf key n) (bitOf mask n) (p .1) ∙ sym (bitOf-or word mask n))) (cases-lt k n)
 
   to-same : bitOr key mask ≡ bitOr word mask → (n : ℕ) → differTo key mask word n ≡ false
   unfolding differTo
@@ -66,11 +66,11 @@ module _ (key mask word : ℕ) where
   differ-all n hk hm hw = ⊎-elim
       (λ e. e ∙ ap not (sym (ne-eqb (bitOr key mask) (bitOr word mask) (λ s. true≢false (sym e ∙ to-same s n)))))
       (λ e. e ∙ ap not (sym (eq-eqb (bitOr key mask) (bitOr word mask)
-        (same-bits n (bitOr key mask) (bitOr word mask) (or-lt n key mask hk hm) (or-lt n word mask hw hm) (same-to n e)))))
+      (same-bits n (bitOr key mask) (bitOr word mask) (or-lt n key mask hk hm) (or-lt n word mask hw hm) (same-to n e)))))
       (cases-bool (differTo key mask word n))
 
   -- one turn of the search: planes p of the word, w of the key and x of what the mask leaves
   pub differ-turn : (m p w x b k : ℕ) → bitOf m k ≡ differTo key mask word b → bitOf p k ≡ bitOf word b → bitOf w k ≡ bitOf key b
-    → bitOf x k ≡ not (bitOf mask b) → bitOf (bitOr m (bitAnd (bitXor p w) x)) k ≡ differTo key mask word (b + 1)
+      → bitOf x k ≡ not (bitOf mask b) → bitOf (bitOr m (bitAnd (bitXor p w) x)) k ≡ differTo key mask word (b + 1)
   differ-turn m p w x b k em ep ew ex =
       rw (bitOf-or m (bitAnd (bitXor p w) x) k, bitOf-and (bitXor p w) x k, bitOf-xor p w k, em, ep, ew, ex) (differ-more b)

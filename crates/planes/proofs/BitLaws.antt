@@ -115,7 +115,7 @@ same-bits zero a b h k e = omega arith
 same-bits (suc n) a b h k e =
     let low : a % 2 ≡ b % 2 = same-digit (a % 2) (b % 2) (omega arith) (omega arith) (sym (bitOf-zero a) ∙ e 0 (omega arith) ∙ bitOf-zero b) in
     let high : a / 2 ≡ b / 2 = same-bits n (a / 2) (b / 2) (omega (arith, pow-suc 2 n)) (omega (arith, pow-suc 2 n))
-        (λ i l. sym (bitOf-suc a i) ∙ e (suc i) (omega arith) ∙ bitOf-suc b i) in
+    (λ i l. sym (bitOf-suc a i) ∙ e (suc i) (omega arith) ∙ bitOf-suc b i) in
     omega arith
   where
     same-digit : (x y : ℕ) → x < 2 → y < 2 → eqb x 1 ≡ eqb y 1 → x ≡ y
@@ -181,9 +181,9 @@ module _ (f : ℕ → Bool) where
   bitOf-numberOf zero k h = absurd (omega arith)
   bitOf-numberOf (suc n) k h =
       top n (numberOf f n) k (f n) (numberOf-lt n) ∙ ⊎-elim
-        (λ l. rw (bitOf-numberOf n k l, ne-eqb k n (λ e. omega arith)) (low (f k) (f n)))
-        (λ l. let e : k ≡ n = omega arith in rw (bitOf-above n (numberOf f n) k (numberOf-lt n) l, eq-eqb k n e, e) (high (f n)))
-        (cases-lt k n)
+      (λ l. rw (bitOf-numberOf n k l, ne-eqb k n (λ e. omega arith)) (low (f k) (f n)))
+      (λ l. let e : k ≡ n = omega arith in rw (bitOf-above n (numberOf f n) k (numberOf-lt n) l, eq-eqb k n e, e) (high (f n)))
+      (cases-lt k n)
     where
       low : (x y : Bool) → (x || (y && false)) ≡ x
       low true y = refl

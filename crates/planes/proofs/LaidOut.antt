@@ -11,7 +11,7 @@ use Rattle.table.specs.Calls.{rowAt}
 use Rattle.table.specs.Row.{Row, isEmpty, isHit, wordIn}
 use Rattle.planes.specs.Bits.{bitOf, numberOf}
 use Rattle.planes.specs.Laws.{rowAt-rows}
-use Rattle.planes.specs.Rows.{column, memoryOf, planesOf, remarked, rowOf, rowsOf, wordOf}
+use Rattle.planes.specs.Rows.{Laid, column, planesOf, remarked, rowOf, rowsOf, wordOf}
 use Rattle.planes.specs.declared.memory.Memory.{Memory}
 use Rattle.planes.proofs.BitLaws.{bitOf-numberOf, numberOf-lt, same-bits}
 use Rattle.planes.proofs.Words.{bitOf-wordOf}
@@ -29,7 +29,7 @@ word-at m r (suc zero) h = refl
 word-at m r (suc (suc s)) h = absurd (omega arith)
 
 same-memory : (p q : List ℕ) (d e a b g h : ℕ) → p ≡ q → d ≡ e → a ≡ b → g ≡ h
-  → _≡_ {A = Memory} (record { planes = p; empty = d; access = a; hit = g }) (record { planes = q; empty = e; access = b; hit = h })
+    → _≡_ {A = Memory} (record { planes = p; empty = d; access = a; hit = g }) (record { planes = q; empty = e; access = b; hit = h })
 same-memory p q d e a b g h ep ed ea eg = rw (ep, ed, ea, eg)
 
 module _ (m : Memory) where
@@ -54,12 +54,12 @@ module _ (m : Memory) where
   planes-laid w = fill-by-all (λ i. column (λ row. bitOf (wordIn row (i / 32)) (i % 32)) (rowsOf m)) (m .planes) 64 0 (w .size)
       (λ i h. column-is (λ row. bitOf (wordIn row (i / 32)) (i % 32)) (getD (m .planes) i 0) (w .planes i h) (λ r l. plane-bit i r h))
 
-  pub laid-from-whole : Whole m → m ≡ memoryOf (rowsOf m)
+  pub laid-from-whole : Whole m → Laid m
   laid-from-whole w =
       same-memory _ _ _ _ _ _ _ _ (planes-laid w) (column-is isEmpty (m .empty) (w .empty) (λ r h. refl))
       (column-is (λ row. row .marks .access) (m .access) (w .access) (λ r h. refl)) (column-is isHit (m .hit) (w .hit) (λ r h. refl))
 
-  pub whole-from-laid : m ≡ memoryOf (rowsOf m) → Whole m
+  pub whole-from-laid : Laid m → Whole m
   unfolding planesOf
   whole-from-laid e =
       let f : ℕ → ℕ = λ i. column (λ row. bitOf (wordIn row (i / 32)) (i % 32)) (rowsOf m) in
@@ -72,9 +72,8 @@ module _ (m : Memory) where
         hit = rw (ap (λ (x : Memory). x .hit) e) (column-lt isHit);
       }
 
-
-pub laid-remarked : (m : Memory) (e a h : ℕ) → m ≡ memoryOf (rowsOf m) → e < 2 ^ 64 → a < 2 ^ 64 → h < 2 ^ 64
-  → remarked e a h m ≡ memoryOf (rowsOf (remarked e a h m))
+pub laid-remarked : (m : Memory) (e a h : ℕ) → Laid m → e < 2 ^ 64 → a < 2 ^ 64 → h < 2 ^ 64
+    → Laid (remarked e a h m)
 laid-remarked m e a h laid le la lh =
     let w = whole-from-laid m laid in
     laid-from-whole (remarked e a h m) (record { size = w .size; planes = w .planes; empty = le; access = la; hit = lh })

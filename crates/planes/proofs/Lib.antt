@@ -4,3 +4,4 @@ pub mod Words
 pub mod LaidOut
 pub mod RowLaws
 pub mod MarkLaws
+pub mod PutLaws

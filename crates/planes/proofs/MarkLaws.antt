@@ -16,15 +16,11 @@ use Rattle.table.specs.declared.parts.Purge.{Purge}
 use Rattle.table.specs.declared.parts.Purge.the-variants.{All, WithAccess, WithoutAccess}
 use Rattle.table.specs.declared.parts.Search.{Search}
 use Rattle.planes.specs.Bits.{bitOf, withBit}
-use Rattle.planes.specs.Rows.{remarked, rowOf, rowsOf, wordOf}
+use Rattle.planes.specs.Rows.{Quiet, remarked, rowOf, rowsOf, wordOf}
 use Rattle.planes.specs.declared.memory.Memory.{Memory}
 use Rattle.planes.proofs.BitLaws.{bitOf-and, bitOf-none, bitOf-not, bitOf-ones, bitOf-or, bitOf-withBit, withBit-lt}
 use Rattle.planes.proofs.LaidOut.{word-at}
 use Rattle.planes.proofs.RowLaws.{rows-change, rows-map}
-
--- an empty row never has the hit mark
-abbrev pub Quiet : ℕ → ℕ → Type 0
-Quiet e h = (r : ℕ) → r < 64 → (bitOf e r && bitOf h r) ≡ false
 
 -- a 64-bit number with the other bits
 abbrev flipped : ℕ → ℕ
@@ -54,18 +50,18 @@ module _ (m : Memory) where
         (never-both (bitOf (m .empty) r) (bitOf (bitAnd g (bitOr d (m .hit))) r))
 
     pub rows-searched : q .segment < 2
-      → ((r : ℕ) → r < 64 → bitOf g r ≡ agrees q (wordOf (m .planes) (q .segment) r))
-      → ((r : ℕ) → r < 64 → bitOf d r ≡ q .head)
-      → ((r : ℕ) → r < 64 → bitOf f r ≡ q .access)
-      → rowsOf (remarked (m .empty) (bitOr (m .access) (bitAnd f (bitAnd (flipped (m .empty)) (bitAnd g (bitOr d (m .hit))))))
-          (bitAnd (flipped (m .empty)) (bitAnd g (bitOr d (m .hit)))) m)
+        → ((r : ℕ) → r < 64 → bitOf g r ≡ agrees q (wordOf (m .planes) (q .segment) r))
+        → ((r : ℕ) → r < 64 → bitOf d r ≡ q .head)
+        → ((r : ℕ) → r < 64 → bitOf f r ≡ q .access)
+        → rowsOf (remarked (m .empty) (bitOr (m .access) (bitAnd f (bitAnd (flipped (m .empty)) (bitAnd g (bitOr d (m .hit))))))
+        (bitAnd (flipped (m .empty)) (bitAnd g (bitOr d (m .hit)))) m)
         ≡ map (searched q) (rowsOf m)
     rows-searched within eg ed ef = rows-map m _ (searched q) (λ r h.
         simp (word-at m r (q .segment) within, bitOf-or, bitOf-and, bitOf-not 64 (m .empty) r h small, eg r h, ed r h, ef r h))
 
   -- a purge: rows x that go
   purge-mark : (kind : Purge) (e a h g : Bool) → g ≡ ofKind kind (record { empty = e; access = a; hit = h })
-    → _≡_ {A = Marks} (record { empty = e || g; access = a && not g; hit = h && not g }) (marksPurged kind (record { empty = e; access = a; hit = h }))
+      → _≡_ {A = Marks} (record { empty = e || g; access = a && not g; hit = h && not g }) (marksPurged kind (record { empty = e; access = a; hit = h }))
   purge-mark kind e a h g s = rw (← s) (by-test e a h g)
     where
       by-test : (e a h g : Bool) → _≡_ {A = Marks} (record { empty = e || g; access = a && not g; hit = h && not g })
@@ -92,7 +88,7 @@ module _ (m : Memory) where
     rows-purged = rows-map m _ (purged kind) (λ r h.
         simp (bitOf-or, bitOf-and, bitOf-not 64 x r h small)
         (ap (λ (k : Marks). record { words = rowOf m r .words; marks = k })
-          (purge-mark kind (bitOf (m .empty) r) (bitOf (m .access) r) (bitOf (m .hit) r) (bitOf x r) (goes r h))))
+        (purge-mark kind (bitOf (m .empty) r) (bitOf (m .access) r) (bitOf (m .hit) r) (bitOf x r) (goes r h))))
 
     pub quiet-purged : Quiet (m .empty) (m .hit) → Quiet (bitOr (m .empty) x) (bitAnd (m .hit) (flipped x))
     quiet-purged quiet r h =
@@ -115,15 +111,25 @@ module _ (m : Memory) where
         rw (bitOf-and (m .hit) (flipped e) r, bitOf-not 64 e r h (withBit-lt row (g .empty) (m .empty))) (taken-away (bitOf e r) (bitOf (m .hit) r))
 
     pub rows-marked : row < 64 → Quiet (m .empty) (m .hit)
-      → rowsOf (remarked (withBit row (g .empty) (m .empty)) (withBit row (g .access) (m .access))
-          (bitAnd (m .hit) (flipped (withBit row (g .empty) (m .empty)))) m)
+        → rowsOf (remarked (withBit row (g .empty) (m .empty)) (withBit row (g .access) (m .access))
+        (bitAnd (m .hit) (flipped (withBit row (g .empty) (m .empty)))) m)
         ≡ change row (marked g) (rowsOf m)
     rows-marked within quiet = rows-change m _ (marked g) row within
-        (simp (bitOf-and, bitOf-not 64 (withBit row (g .empty) (m .empty)) row within (withBit-lt row (g .empty) (m .empty)),
-          bitOf-withBit row (g .empty) (m .empty) row within, bitOf-withBit row (g .access) (m .access) row within, eq-eqb row row refl))
-        (λ r h ne. simp (bitOf-and, bitOf-not 64 (withBit row (g .empty) (m .empty)) r h (withBit-lt row (g .empty) (m .empty)),
-          bitOf-withBit row (g .empty) (m .empty) r h, bitOf-withBit row (g .access) (m .access) r h, ne-eqb r row ne,
-          still (bitOf (m .empty) r) (bitOf (m .hit) r) (quiet r h)))
+        (simp (
+          bitOf-and,
+          bitOf-not 64 (withBit row (g .empty) (m .empty)) row within (withBit-lt row (g .empty) (m .empty)),
+          bitOf-withBit row (g .empty) (m .empty) row within,
+          bitOf-withBit row (g .access) (m .access) row within,
+          eq-eqb row row refl,
+        ))
+        (λ r h ne. simp (
+          bitOf-and,
+          bitOf-not 64 (withBit row (g .empty) (m .empty)) r h (withBit-lt row (g .empty) (m .empty)),
+          bitOf-withBit row (g .empty) (m .empty) r h,
+          bitOf-withBit row (g .access) (m .access) r h,
+          ne-eqb r row ne,
+          still (bitOf (m .empty) r) (bitOf (m .hit) r) (quiet r h),
+        ))
       where
         still : (e h : Bool) → (e && h) ≡ false → (h && not e) ≡ h
         still true true s = absurd (true≢false s)

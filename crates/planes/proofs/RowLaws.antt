@@ -28,13 +28,13 @@ module _ (m n : Memory) (f : Row → Row) where
       rowAt-rows n r l ∙ e r l ∙ ap f (sym (rowAt-rows m r l)) ∙ sym (getD-map f (rowsOf m) r blank blank (omega (arith, length-rows m))))
 
   pub rows-change : (row : ℕ) → row < 64 → rowOf n row ≡ f (rowOf m row) → ((r : ℕ) → r < 64 → r ≢ row → rowOf n r ≡ rowOf m r)
-    → rowsOf n ≡ change row f (rowsOf m)
+      → rowsOf n ≡ change row f (rowsOf m)
   rows-change row within here others =
       ext-getD blank (rowsOf n) (change row f (rowsOf m)) (length-rows n ∙ sym (length-change f (rowsOf m) row ∙ length-rows m))
       (λ r h. let l : r < 64 = omega (arith, length-rows n) in rowAt-rows n r l ∙ ⊎-elim
-        (λ s. rw s (here ∙ ap f (sym (rowAt-rows m row within)) ∙ sym (rowAt-change-same f (rowsOf m) row (omega (arith, length-rows m)))))
-        (λ s. others r l s ∙ sym (rowAt-rows m r l) ∙ sym (rowAt-change-other f (rowsOf m) row r s))
-        (cases-eq r row))
+      (λ s. rw s (here ∙ ap f (sym (rowAt-rows m row within)) ∙ sym (rowAt-change-same f (rowsOf m) row (omega (arith, length-rows m)))))
+      (λ s. others r l s ∙ sym (rowAt-rows m r l) ∙ sym (rowAt-change-other f (rowsOf m) row r s))
+      (cases-eq r row))
 
 module _ (m : Memory) (p : Row → Bool) (x : ℕ) (e : (r : ℕ) → r < 64 → p (rowOf m r) ≡ bitOf x r) where
   test-row : (r : ℕ) → r < 64 → p (rowAt (rowsOf m) r) ≡ bitOf x r

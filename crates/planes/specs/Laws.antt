@@ -1,6 +1,5 @@
 -- What holds of the rows of every memory: there are 64, each of two words. Assumes nothing.
 use Prim.Native.Nat.{ℕ, _<_}
-use mathlib.Core.Bool.{false, _&&_}
 use mathlib.Core.Path.{_≡_, refl}
 use native.Mathlib.Omega.{arith}
 use lib.ListN.{length}
@@ -9,8 +8,7 @@ use Rattle.std.proofs.shelf.Elements.{all-from-getD}
 use Rattle.table.specs.Calls.{rowAt}
 use Rattle.table.specs.Laws.{Sound, SoundRow}
 use Rattle.table.specs.Row.{blank}
-use Rattle.planes.specs.Bits.{bitOf}
-use Rattle.planes.specs.Rows.{rowOf, rowsOf}
+use Rattle.planes.specs.Rows.{Quiet, rowOf, rowsOf}
 use Rattle.planes.specs.declared.memory.Memory.{Memory}
 
 module _ (m : Memory) where
@@ -22,7 +20,7 @@ module _ (m : Memory) where
   unfolding rowsOf
   rowAt-rows r h = getD-map-counting (rowOf m) 0 64 r r blank h (omega arith)
 
-  pub sound-rows : ((r : ℕ) → r < 64 → (bitOf (m .empty) r && bitOf (m .hit) r) ≡ false) → Sound 2 (rowsOf m)
+  pub sound-rows : Quiet (m .empty) (m .hit) → Sound 2 (rowsOf m)
   sound-rows quiet = record {
     some = omega arith;
     narrow = omega arith;

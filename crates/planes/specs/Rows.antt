@@ -3,9 +3,11 @@
 --   rowOf, rowsOf  a row of the memory, and all 64
 --   column p rs    the 64-bit number whose bit r says whether row r passes p
 --   memoryOf rs    the memory that holds these rows, and no other
+--   Laid m         the memory is the one that its rows lay out: nothing else is in it
+--   Quiet e h      an empty row never has the hit mark
 --   opened         the memory after a reset, with every word 0
 use Prim.Native.Nat.{ℕ, _+_, _*_, _/_, _%_, _-_, _^_, _<_}
-use mathlib.Core.Bool.{Bool, false, cond}
+use mathlib.Core.Bool.{Bool, false, _&&_, cond}
 use mathlib.Core.Path.{_≡_}
 use mathlib.Core.List.{List, [], _∷_, map}
 use lib.Dec.{eqb}
@@ -42,6 +44,12 @@ memoryOf rs = record {
   access = column (λ row. row .marks .access) rs;
   hit = column isHit rs;
 }
+
+abbrev pub Laid : Memory → Type 0
+Laid m = m ≡ memoryOf (rowsOf m)
+
+abbrev pub Quiet : ℕ → ℕ → Type 0
+Quiet e h = (r : ℕ) → r < 64 → (bitOf e r && bitOf h r) ≡ false
 
 -- the memory with these marks
 abbrev pub remarked : ℕ → ℕ → ℕ → Memory → Memory

@@ -1,12 +1,9 @@
 // The plane table: its opening, and the calls of every table. All rows go at once, by operations on
 // whole planes and whole marks.
-ghost use Prim.Native.Nat.{ℕ, _<_};
 ghost use lib.ListN.{replicate};
-ghost use mathlib.Core.Bool.{false, _&&_};
 ghost use mathlib.Core.Path.{_≡_};
-ghost use Rattle.planes.specs.Bits.{bitOf};
 ghost use Rattle.planes.specs.Laws.{sound-rows};
-ghost use Rattle.planes.specs.Rows.{memoryOf, opened, remarked, rowsOf, vacant};
+ghost use Rattle.planes.specs.Rows.{Laid, Quiet, opened, remarked, rowsOf, vacant};
 use crate::bits;
 use crate::memory::Memory;
 use crate::planes::Planes;
@@ -36,7 +33,7 @@ impl Planes {
 
     // Gives all rows their marks at once.
     fn mark(&mut self, empty: u64, access: u64, hit: u64)
-        requires { ⌜ ((r : ℕ) → r < 64 → (bitOf empty r && bitOf hit r) ≡ false) ⌝ }
+        requires { ⌜ Quiet empty hit ⌝ }
         ensures { λ _. ⌜ now (self .exit) .memory ≡ remarked empty access hit (now (self .entry) .memory) ⌝ }
     {
         self.memory.empty = empty;
@@ -53,14 +50,17 @@ pub impl Table for Planes as PlanesTable {
     ghost sound = { λ t. sound-rows (t .memory) (t .quiet) };
 
     // After every call the memory is the one that the rows lay out, so that the rows pin each bit.
-    ghost frame = { λ a b. b .memory ≡ memoryOf (rowsOf (b .memory)) };
+    ghost frame = { λ a b. Laid (b .memory) };
 
     ghost same = { λ a. a .laid };
 
     ghost chain = { λ a b c f g. g };
 
     fn shape(&self) -> Shape {
-        Shape { width: 2, depth: 64 }
+        Shape {
+            width: 2,
+            depth: 64,
+        }
     }
 
     fn read(&self, row: u32, segment: u32) -> Result<u32, TableFault> {

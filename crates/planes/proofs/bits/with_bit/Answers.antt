@@ -10,8 +10,8 @@ pub returns-then-on : need.returns-then-on
 returns-then-on c =
     rw (c .if-on .taken)
     (withBit-from (c .args .place) _ (c .args .number) _
-      (or-lt 64 (c .args .number) ((1 * 2 ^ c .args .place) % 2 ^ 64) (omega arith) (mod-below (1 * 2 ^ c .args .place) (2 ^ 64) (omega arith)))
-      (λ k h. bitOf-with 64 (c .args .number) (c .args .place) k (c .pre)))
+    (or-lt 64 (c .args .number) ((1 * 2 ^ c .args .place) % 2 ^ 64) (omega arith) (mod-below (1 * 2 ^ c .args .place) (2 ^ 64) (omega arith)))
+    (λ k h. bitOf-with 64 (c .args .number) (c .args .place) k (c .pre)))
 
 pub returns-else-on : need.returns-else-on
 returns-else-on c =

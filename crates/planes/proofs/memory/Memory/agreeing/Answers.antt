@@ -25,10 +25,10 @@ pub loop-b-again : need.loop-b-again
 loop-b-again c = (
   or-lt 64 (c .loop-b .missed) _ (c .loop-b .inv .0) (lt-of-le-of-lt (and-le-r _ (c .spread-compared .result)) (c .spread-compared .ok)),
   λ k h. differ-turn (c .args .key) (c .args .mask) (wordOf (c .args .self .now .planes) (c .args .segment) k) _ _ _ _ (c .loop-b .b) k
-    (c .loop-b .inv .1 k h)
-    (sym (bitOf-wordOf (c .args .self .now .planes) (c .args .segment) k (c .loop-b .b) (omega arith)))
-    (c .spread-wanted .ensures k h ∙ c .bit .ensures)
-    (c .spread-compared .ensures k h ∙ ap not (c .bit-in-loop-b .ensures)),
+      (c .loop-b .inv .1 k h)
+      (sym (bitOf-wordOf (c .args .self .now .planes) (c .args .segment) k (c .loop-b .b) (omega arith)))
+      (c .spread-wanted .ensures k h ∙ c .bit .ensures)
+      (c .spread-compared .ensures k h ∙ ap not (c .bit-in-loop-b .ensures)),
 )
 
 pub returns : need.returns
@@ -37,5 +37,5 @@ returns c k h =
     let e : c .loop-b .b ≡ 32 = omega arith in
     bitOf-not 64 (c .loop-b .missed) k h (c .loop-b .inv .0)
     ∙ ap not (c .loop-b .inv .1 k h ∙ ap (λ (n : ℕ). differTo (c .args .key) (c .args .mask) w n) e
-      ∙ differ-all (c .args .key) (c .args .mask) w 32 (omega arith) (omega arith) (wordOf-lt (c .args .self .now .planes) (c .args .segment) k))
+    ∙ differ-all (c .args .key) (c .args .mask) w 32 (omega arith) (omega arith) (wordOf-lt (c .args .self .now .planes) (c .args .segment) k))
     ∙ not-not (eqb (bitOr (c .args .key) (c .args .mask)) (bitOr w (c .args .mask)))

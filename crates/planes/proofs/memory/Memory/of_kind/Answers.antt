@@ -10,5 +10,9 @@ returns-in-WithAccess c r h = simp (c .in-WithAccess .is, bitOf-and, bitOf-not 6
 
 pub returns-in-WithoutAccess : need.returns-in-WithoutAccess
 returns-in-WithoutAccess c r h =
-    simp (c .in-WithoutAccess .is, bitOf-and, bitOf-not 64 (c .args .self .now .empty) r h (omega arith),
-      bitOf-not 64 (c .args .self .now .access) r h (omega arith))
+    simp (
+      c .in-WithoutAccess .is,
+      bitOf-and,
+      bitOf-not 64 (c .args .self .now .empty) r h (omega arith),
+      bitOf-not 64 (c .args .self .now .access) r h (omega arith),
+    )

@@ -10,7 +10,7 @@ abbrev pub Inv-loop-b : given.InvT-loop-b
 Inv-loop-b l =
     (length (l .self .planes) ≡ length (l .entry .self .planes))
     × ((i : ℕ) → i < 64 → getD (l .self .planes) i 0 ≡ cond (eqb (i / 32) (l .segment) && ltb (i % 32) (l .b))
-      (withBit (l .row) (bitOf (l .word) (i % 32)) (getD (l .entry .self .planes) i 0)) (getD (l .entry .self .planes) i 0))
+    (withBit (l .row) (bitOf (l .word) (i % 32)) (getD (l .entry .self .planes) i 0)) (getD (l .entry .self .planes) i 0))
     × (l .self .empty ≡ l .entry .self .empty)
     × (l .self .access ≡ l .entry .self .access)
     × (l .self .hit ≡ l .entry .self .hit)

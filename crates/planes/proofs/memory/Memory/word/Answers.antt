@@ -18,8 +18,8 @@ loop-b-again c =
     let f : ℕ → Bool = λ b. bitOf (getD (c .args .self .now .planes) (32 * c .args .segment + b) 0) (c .args .row) in
     let i = c .loop-b .inv in
     elim (c .if-bit .came) [
-      then-bit w ↦ w .word-is ∙ rw i (numberOf-set f (c .loop-b .b) 32 (c .loop-b-test .taken) (sym (c .bit .ensures) ∙ w .if-bit .taken))
-    | else-bit w ↦ w .word-is ∙ (i ∙ numberOf-unset f (c .loop-b .b) (sym (c .bit .ensures) ∙ w .if-bit .left))
+      | then-bit w ↦ w .word-is ∙ rw i (numberOf-set f (c .loop-b .b) 32 (c .loop-b-test .taken) (sym (c .bit .ensures) ∙ w .if-bit .taken))
+      | else-bit w ↦ w .word-is ∙ (i ∙ numberOf-unset f (c .loop-b .b) (sym (c .bit .ensures) ∙ w .if-bit .left))
     ]
 
 pub returns : need.returns

@@ -20,7 +20,7 @@ pub returns : need.returns
 returns c =
     let m = c .args .self .now .memory in
     let word = c .word .ensures ∙ sym (word-at m (c .args .row) (c .args .segment) (c .if-segment-ge2 .left))
-        ∙ ap (λ (row : Row). wordIn row (c .args .segment)) (sym (rowAt-rows m (c .args .row) (c .if-row-ge64 .left))) in
+    ∙ ap (λ (row : Row). wordIn row (c .args .segment)) (sym (rowAt-rows m (c .args .row) (c .if-row-ge64 .left))) in
     record {
       answer = rw word (cell-granted 2 (rowsOf m) (c .args .row) (c .args .segment) _ (omega (arith, length-rows m)) (c .if-segment-ge2 .left));
     }

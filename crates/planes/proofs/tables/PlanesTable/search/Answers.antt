@@ -26,8 +26,8 @@ returns c =
       answer = segment-granted 2 (c .args .query .segment) tt (c .if-query-ge2 .left);
       rows = ap rowsOf (c .mark .ensures)
           ∙ rows-searched m (c .args .query) (c .agreeing-agreeing .result) (c .spread .result) (c .spread-2 .result)
-            (whole-from-laid m (c .args .self .now .laid) .empty) (c .if-query-ge2 .left)
-            (c .agreeing-agreeing .ensures) (c .spread .ensures) (c .spread-2 .ensures);
+          (whole-from-laid m (c .args .self .now .laid) .empty) (c .if-query-ge2 .left)
+          (c .agreeing-agreeing .ensures) (c .spread .ensures) (c .spread-2 .ensures);
       width = refl;
       frame = c .mark .last .self .laid;
     }

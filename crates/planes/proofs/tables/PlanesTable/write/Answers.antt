@@ -1,13 +1,46 @@
+use mathlib.Core.Path.{refl}
+use native.Mathlib.Omega.{arith}
+use Rattle.table.proofs.Checks.{cell-granted, cell-row, cell-segment}
+use Rattle.planes.specs.Laws.{length-rows}
+use Rattle.planes.specs.Rows.{rowsOf}
+use Rattle.planes.proofs.PutLaws.{laid-put, quiet-put, rows-written}
 use Rattle.planes.proofs.tables.PlanesTable.write.Needs as need
 
 pub returns-then-row-ge64 : need.returns-then-row-ge64
-returns-then-row-ge64 c = ?
+returns-then-row-ge64 c = record {
+  answer = cell-row 2 _ (c .args .row) (c .args .segment) tt (omega (arith, length-rows (c .args .self .now .memory)));
+  rows = refl;
+  width = refl;
+  frame = c .args .self .now .laid;
+}
 
 pub returns-then-segment-ge2 : need.returns-then-segment-ge2
-returns-then-segment-ge2 c = ?
+returns-then-segment-ge2 c = record {
+  answer = cell-segment 2 _ (c .args .row) (c .args .segment) tt (omega (arith, length-rows (c .args .self .now .memory))) (c .if-segment-ge2 .taken);
+  rows = refl;
+  width = refl;
+  frame = c .args .self .now .laid;
+}
 
 pub ghost-self : need.ghost-self
-ghost-self c = ?
+ghost-self c = (
+  quiet-put (c .args .row) (c .args .segment) (c .args .word) (c .args .self .now .memory) (c .put .last .self) (c .put .ensures) (omega arith)
+      (c .args .self .now .quiet),
+  (
+    laid-put (c .args .row) (c .args .segment) (c .args .word) (c .args .self .now .memory) (c .put .last .self) (c .put .ensures) (omega arith)
+        (c .args .self .now .laid),
+    tt,
+  ),
+)
 
 pub returns : need.returns
-returns c = ?
+returns c =
+    let m = c .args .self .now .memory in
+    record {
+      answer = cell-granted 2 (rowsOf m) (c .args .row) (c .args .segment) tt (omega (arith, length-rows m)) (c .if-segment-ge2 .left);
+      rows = rows-written (c .args .row) (c .args .segment) (c .args .word) m (c .put .last .self) (c .put .ensures) (omega arith)
+          (c .if-segment-ge2 .left) (c .if-row-ge64 .left);
+      width = refl;
+      frame = laid-put (c .args .row) (c .args .segment) (c .args .word) m (c .put .last .self) (c .put .ensures) (omega arith)
+          (c .args .self .now .laid);
+    }
