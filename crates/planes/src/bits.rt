@@ -3,6 +3,7 @@ ghost use Prim.Native.Nat.{ℕ, _<_};
 ghost use mathlib.Core.Path.{_≡_};
 ghost use Rattle.planes.specs.Bits.{FirstBit, bitOf, withBit};
 
+// Whether the bit at a place is set.
 pub(crate) fn bit(number: u64, place: u32) -> bool
     requires { ⌜ place < 64 ⌝ }
     ensures { λ r. ⌜ r ≡ bitOf number place ⌝ }
@@ -17,6 +18,7 @@ pub(crate) fn spread(on: bool) -> u64
     if on { u64::MAX } else { 0 }
 }
 
+// The number with the bit at a place replaced.
 pub(crate) fn with_bit(number: u64, place: u32, on: bool) -> u64
     requires { ⌜ place < 64 ⌝ }
     ensures { λ r. ⌜ r ≡ withBit place on number ⌝ }

@@ -4,6 +4,5 @@ mod memory;
 mod planes;
 mod tables;
 
-pub use memory::Memory;
 pub use planes::Planes;
 pub use tables::PlanesTable;

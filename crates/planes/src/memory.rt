@@ -11,7 +11,7 @@ use table::Purge;
 
 // Number 32 * s + b of `planes` holds bit b of segment s, and its bit r is that bit of row r. The
 // marks lie likewise, bit r of each number for row r.
-#[derive(Clone, Copy, Debug)]
+#[derive(Clone, Copy)]
 pub struct Memory {
     pub(crate) planes: [u64; 64],
     pub(crate) empty: u64,
