@@ -28,7 +28,6 @@ impl Planes {
         }
     }
 
-    #[inline(never)]
     fn search(&mut self, key: u32, mask: u32, segment: u32, head: bool, access: bool) -> bool {
         if segment >= 2 {
             return false;
@@ -63,15 +62,15 @@ fn by_hand(rounds: u32, seed: u32) -> u32 {
     let mut n = seed;
     for row in 0..64 {
         n = next(n);
-        table.write(row, 0, n >> 28);
+        table.write(row, 0, n);
         n = next(n);
-        table.write(row, 1, n >> 28);
+        table.write(row, 1, n);
     }
     let mut n = seed;
     let mut mixed = 0u32;
     for round in 0..rounds {
         n = next(n);
-        table.search(n >> 28, n & 3, round & 1, round & 1 == 0, n & 64 == 64);
+        table.search(n, n | n << 3 | n << 7, round & 1, round & 1 == 0, n & 64 == 64);
         if let Some(row) = table.first_hit(0) {
             mixed = mixed.wrapping_mul(31).wrapping_add(row);
         }

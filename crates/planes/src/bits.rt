@@ -3,7 +3,15 @@ ghost use Prim.Native.Nat.{ℕ, _<_};
 ghost use mathlib.Core.Path.{_≡_};
 ghost use Rattle.planes.specs.Bits.{FirstBit, bitOf, withBit};
 
-// Whether the bit at a place is set.
+// Whether the bit of a word at a place is set.
+pub(crate) fn word_bit(word: u32, place: u32) -> bool
+    requires { ⌜ place < 32 ⌝ }
+    ensures { λ r. ⌜ r ≡ bitOf word place ⌝ }
+{
+    word >> place & 1 == 1
+}
+
+// Whether the bit of a number at a place is set.
 pub(crate) fn bit(number: u64, place: u32) -> bool
     requires { ⌜ place < 64 ⌝ }
     ensures { λ r. ⌜ r ≡ bitOf number place ⌝ }

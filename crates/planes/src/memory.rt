@@ -47,7 +47,7 @@ impl Memory {
         }
         for b in 0..32 {
             let at = (32 * segment + b) as usize;
-            let on = bits::bit(word as u64, b);
+            let on = bits::word_bit(word, b);
             self.planes[at] = bits::with_bit(self.planes[at], row, on);
         }
     }
@@ -59,8 +59,8 @@ impl Memory {
     {
         let mut missed = 0u64;
         for b in 0..32 {
-            let wanted = bits::spread(bits::bit(key as u64, b));
-            let compared = bits::spread(!bits::bit(mask as u64, b));
+            let wanted = bits::spread(bits::word_bit(key, b));
+            let compared = bits::spread(!bits::word_bit(mask, b));
             missed |= (self.planes[(32 * segment + b) as usize] ^ wanted) & compared;
         }
         !missed

@@ -9,15 +9,15 @@ fn next(n: u32) -> u32 {
     n.wrapping_mul(1664525).wrapping_add(1013904223)
 }
 
-// A table whose rows hold small numbers, so that many searches hit.
+// A table whose rows hold numbers that look like chance.
 fn filled(seed: u32) -> Planes {
     let mut table = Planes::new();
     let mut n = seed;
     for row in 0..64 {
         n = next(n);
-        let _ = table.write(row, 0, n >> 28);
+        let _ = table.write(row, 0, n);
         n = next(n);
-        let _ = table.write(row, 1, n >> 28);
+        let _ = table.write(row, 1, n);
     }
     table
 }
@@ -31,8 +31,8 @@ pub extern "C" fn planes_searches(rounds: u32, seed: u32) -> u32 {
     for round in 0..rounds {
         n = next(n);
         let query = Search {
-            key: n >> 28,
-            mask: n & 3,
+            key: n,
+            mask: n | n << 3 | n << 7,
             segment: round & 1,
             head: round & 1 == 0,
             access: n & 64 == 64,

@@ -27,8 +27,8 @@ loop-b-again c = (
   λ k h. differ-turn (c .args .key) (c .args .mask) (wordOf (c .args .self .now .planes) (c .args .segment) k) _ _ _ _ (c .loop-b .b) k
       (c .loop-b .inv .1 k h)
       (sym (bitOf-wordOf (c .args .self .now .planes) (c .args .segment) k (c .loop-b .b) (omega arith)))
-      (c .spread-wanted .ensures k h ∙ c .bit .ensures)
-      (c .spread-compared .ensures k h ∙ ap not (c .bit-in-loop-b .ensures)),
+      (c .spread-wanted .ensures k h ∙ c .word-bit .ensures)
+      (c .spread-compared .ensures k h ∙ ap not (c .word-bit-in-loop-b .ensures)),
 )
 
 pub returns : need.returns
