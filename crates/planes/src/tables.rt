@@ -6,7 +6,9 @@ ghost use Rattle.planes.specs.Laws.{sound-rows};
 ghost use Rattle.planes.specs.Rows.{Laid, Quiet, opened, remarked, rowsOf, vacant};
 use crate::bits;
 use crate::memory::Memory;
+use crate::planes::DEPTH;
 use crate::planes::Planes;
+use crate::planes::WIDTH;
 use table::Marking;
 use table::Marks;
 use table::Purge;
@@ -58,26 +60,26 @@ pub impl Table for Planes as PlanesTable {
 
     fn shape(&self) -> Shape {
         Shape {
-            width: 2,
-            depth: 64,
+            width: WIDTH,
+            depth: DEPTH,
         }
     }
 
     fn read(&self, row: u32, segment: u32) -> Result<u32, TableFault> {
-        if row >= 64 {
+        if row >= DEPTH {
             return Err(TableFault::Row(row));
         }
-        if segment >= 2 {
+        if segment >= WIDTH {
             return Err(TableFault::Segment(segment));
         }
         Ok(self.memory.word(row, segment))
     }
 
     fn write(&mut self, row: u32, segment: u32, word: u32) -> Result<(), TableFault> {
-        if row >= 64 {
+        if row >= DEPTH {
             return Err(TableFault::Row(row));
         }
-        if segment >= 2 {
+        if segment >= WIDTH {
             return Err(TableFault::Segment(segment));
         }
         self.memory.put(row, segment, word);
@@ -85,7 +87,7 @@ pub impl Table for Planes as PlanesTable {
     }
 
     fn marks(&self, row: u32) -> Result<Marks, TableFault> {
-        if row >= 64 {
+        if row >= DEPTH {
             return Err(TableFault::Row(row));
         }
         Ok(Marks {
@@ -96,7 +98,7 @@ pub impl Table for Planes as PlanesTable {
     }
 
     fn set_marks(&mut self, row: u32, marking: Marking) -> Result<(), TableFault> {
-        if row >= 64 {
+        if row >= DEPTH {
             return Err(TableFault::Row(row));
         }
         let empty = bits::with_bit(self.memory.empty, row, marking.empty);
@@ -107,7 +109,7 @@ pub impl Table for Planes as PlanesTable {
     }
 
     fn search(&mut self, query: Search) -> Result<(), TableFault> {
-        if query.segment >= 2 {
+        if query.segment >= WIDTH {
             return Err(TableFault::Segment(query.segment));
         }
         let empty = self.memory.empty;

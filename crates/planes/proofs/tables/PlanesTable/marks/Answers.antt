@@ -6,13 +6,13 @@ use Rattle.planes.specs.Laws.{length-rows, rowAt-rows}
 use Rattle.planes.specs.Rows.{rowsOf}
 use Rattle.planes.proofs.tables.PlanesTable.marks.Needs as need
 
-pub returns-then-row-ge64 : need.returns-then-row-ge64
-returns-then-row-ge64 c = record { answer = row-refused _ (c .args .row) _ (omega (arith, length-rows (c .args .self .now .memory))) }
+pub returns-then-row-ge-DEPTH : need.returns-then-row-ge-DEPTH
+returns-then-row-ge-DEPTH c = record { answer = row-refused _ (c .args .row) _ (omega (arith, length-rows (c .args .self .now .memory))) }
 
 pub returns : need.returns
 returns c =
     let m = c .args .self .now .memory in
     record {
-      answer = rw (c .bit .ensures, c .bit-2 .ensures, c .bit-3 .ensures, ← ap (λ (row : Row). row .marks) (rowAt-rows m (c .args .row) (c .if-row-ge64 .left)))
+      answer = rw (c .bit .ensures, c .bit-2 .ensures, c .bit-3 .ensures, ← ap (λ (row : Row). row .marks) (rowAt-rows m (c .args .row) (c .if-row-ge-DEPTH .left)))
           (row-granted (rowsOf m) (c .args .row) _ (omega (arith, length-rows m)));
     }

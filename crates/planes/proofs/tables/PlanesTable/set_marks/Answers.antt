@@ -6,8 +6,8 @@ use Rattle.planes.specs.Rows.{rowsOf}
 use Rattle.planes.proofs.MarkLaws.{quiet-marked, rows-marked}
 use Rattle.planes.proofs.tables.PlanesTable.set_marks.Needs as need
 
-pub returns-then-row-ge64 : need.returns-then-row-ge64
-returns-then-row-ge64 c = record {
+pub returns-then-row-ge-DEPTH : need.returns-then-row-ge-DEPTH
+returns-then-row-ge-DEPTH c = record {
   answer = row-refused _ (c .args .row) tt (omega (arith, length-rows (c .args .self .now .memory)));
   rows = refl;
   width = refl;
@@ -23,7 +23,7 @@ returns c =
     record {
       answer = row-granted (rowsOf m) (c .args .row) tt (omega (arith, length-rows m));
       rows = ap rowsOf (c .mark .ensures) ∙ rw (c .with-bit-empty .ensures, c .with-bit-access .ensures)
-          (rows-marked m (c .args .row) (c .args .marking) (c .if-row-ge64 .left) (c .args .self .now .quiet));
+          (rows-marked m (c .args .row) (c .args .marking) (c .if-row-ge-DEPTH .left) (c .args .self .now .quiet));
       width = refl;
       frame = c .mark .last .self .laid;
     }

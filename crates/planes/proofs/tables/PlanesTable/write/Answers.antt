@@ -6,17 +6,17 @@ use Rattle.planes.specs.Rows.{rowsOf}
 use Rattle.planes.proofs.PutLaws.{laid-put, quiet-put, rows-written}
 use Rattle.planes.proofs.tables.PlanesTable.write.Needs as need
 
-pub returns-then-row-ge64 : need.returns-then-row-ge64
-returns-then-row-ge64 c = record {
+pub returns-then-row-ge-DEPTH : need.returns-then-row-ge-DEPTH
+returns-then-row-ge-DEPTH c = record {
   answer = cell-row 2 _ (c .args .row) (c .args .segment) tt (omega (arith, length-rows (c .args .self .now .memory)));
   rows = refl;
   width = refl;
   frame = c .args .self .now .laid;
 }
 
-pub returns-then-segment-ge2 : need.returns-then-segment-ge2
-returns-then-segment-ge2 c = record {
-  answer = cell-segment 2 _ (c .args .row) (c .args .segment) tt (omega (arith, length-rows (c .args .self .now .memory))) (c .if-segment-ge2 .taken);
+pub returns-then-segment-ge-WIDTH : need.returns-then-segment-ge-WIDTH
+returns-then-segment-ge-WIDTH c = record {
+  answer = cell-segment 2 _ (c .args .row) (c .args .segment) tt (omega (arith, length-rows (c .args .self .now .memory))) (c .if-segment-ge-WIDTH .taken);
   rows = refl;
   width = refl;
   frame = c .args .self .now .laid;
@@ -37,9 +37,9 @@ pub returns : need.returns
 returns c =
     let m = c .args .self .now .memory in
     record {
-      answer = cell-granted 2 (rowsOf m) (c .args .row) (c .args .segment) tt (omega (arith, length-rows m)) (c .if-segment-ge2 .left);
+      answer = cell-granted 2 (rowsOf m) (c .args .row) (c .args .segment) tt (omega (arith, length-rows m)) (c .if-segment-ge-WIDTH .left);
       rows = rows-written (c .args .row) (c .args .segment) (c .args .word) m (c .put .last .self) (c .put .ensures) (omega arith)
-          (c .if-segment-ge2 .left) (c .if-row-ge64 .left);
+          (c .if-segment-ge-WIDTH .left) (c .if-row-ge-DEPTH .left);
       width = refl;
       frame = laid-put (c .args .row) (c .args .segment) (c .args .word) m (c .put .last .self) (c .put .ensures) (omega arith)
           (c .args .self .now .laid);
