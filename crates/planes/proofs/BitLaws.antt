@@ -9,9 +9,9 @@ use native.Mathlib.Omega.{arith}
 use lib.Bits.{bitAnd, bitOr, bitXor, or-shifted-r, and-shr, or-shr, xor-shr, and-mod, or-mod, xor-mod}
 use lib.Count.{trailingZeros, under}
 use lib.Dec.{eqb, isEq}
-use mathlib.Core.Logic.{_⊎_, inl, inr, ⊎-elim}
-use Rattle.std.proofs.shelf.Tests.{cases-bool, cases-lt, eq-eqb, eqb-true, ne-eqb, true≢false}
-use Rattle.std.proofs.shelf.Bits.{one-shl, pow-below, shr-shr, shr-le, mod-below, pow-pos}
+use mathlib.Core.Logic.{⊎-elim}
+use Rattle.std.proofs.shelf.Tests.{cases-lt, eq-eqb, ne-eqb, true≢false}
+use Rattle.std.proofs.shelf.Bits.{one-shl, pow-below, shr-shr, shr-le, pow-pos}
 use Rattle.planes.specs.Bits.{bitOf, numberOf, withBit}
 
 -- the lowest bit, and the bits above it

@@ -3,17 +3,14 @@
 use Prim.Native.Nat.{ℕ, _-_, _^_, _<_}
 use mathlib.Core.Bool.{Bool, true, false, not, _&&_, _||_, cond}
 use mathlib.Core.List.{map}
-use mathlib.Core.Path.{_≡_, refl, sym, ap, _∙_}
-use native.Mathlib.Omega.{arith}
+use mathlib.Core.Path.{_≡_, refl, ap}
 use lib.Bits.{bitAnd, bitOr}
-use lib.Dec.{eqb}
 use Rattle.std.proofs.shelf.Tests.{eq-eqb, ne-eqb, true≢false}
 use Rattle.table.specs.Calls.{change}
-use Rattle.table.specs.Row.{Row, agrees, marked, marksPurged, ofKind, purged, searched, unvisited, vacated}
+use Rattle.table.specs.Row.{agrees, marked, marksPurged, ofKind, purged, searched, unvisited, vacated}
 use Rattle.table.specs.declared.parts.Marking.{Marking}
 use Rattle.table.specs.declared.parts.Marks.{Marks}
 use Rattle.table.specs.declared.parts.Purge.{Purge}
-use Rattle.table.specs.declared.parts.Purge.the-variants.{All, WithAccess, WithoutAccess}
 use Rattle.table.specs.declared.parts.Search.{Search}
 use Rattle.planes.specs.Bits.{bitOf, withBit}
 use Rattle.planes.specs.Rows.{Quiet, remarked, rowOf, rowsOf, wordOf}

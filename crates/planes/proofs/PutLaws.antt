@@ -29,7 +29,7 @@ replaced-bit : (t : Bool) (row r : ℕ) (b : Bool) (x : ℕ) → r < 64 → bitO
 replaced-bit true row r b x h = bitOf-withBit row b x r h
 replaced-bit false row r b x h = refl
 
-module _ (row s word : ℕ) (m n : Memory) (put : Put row s word m n) (small : word < 2 ^ 32) where
+module _ {row s word : ℕ} {m n : Memory} (put : Put row s word m n) (small : word < 2 ^ 32) where
   put-plane : (t b : ℕ) → t < 2 → b < 32 → getD (n .planes) (32 * t + b) 0
       ≡ cond (eqb t s) (withBit row (bitOf word b) (getD (m .planes) (32 * t + b) 0)) (getD (m .planes) (32 * t + b) 0)
   put-plane t b h k =
@@ -74,19 +74,19 @@ module _ (row s word : ℕ) (m n : Memory) (put : Put row s word m n) (small : w
     hit = rw (put .hit) (w .hit);
   })
 
-put-here : (row s word : ℕ) (m n : Memory) → Put row s word m n → word < 2 ^ 32 → s < 2 → row < 64 → rowOf n row ≡ written s word (rowOf m row)
-put-here row zero word m n put small h k =
+put-here : (s : ℕ) {row word : ℕ} {m n : Memory} → Put row s word m n → word < 2 ^ 32 → s < 2 → row < 64 → rowOf n row ≡ written s word (rowOf m row)
+put-here zero {row} put small h k =
     let e = eq-eqb row row refl in
-    same-row _ _ _ _ _ _ _ _ _ _ (put-word row 0 word m n put small 0 row (omega arith) k ∙ rw e) (put-word row 0 word m n put small 1 row (omega arith) k)
-    (put-empty row 0 word m n put small row k ∙ rw e) (ap (λ (x : ℕ). bitOf x row) (put .access)) (ap (λ (x : ℕ). bitOf x row) (put .hit))
-put-here row (suc zero) word m n put small h k =
+    same-row _ _ _ _ _ _ _ _ _ _ (put-word put small 0 row (omega arith) k ∙ rw e) (put-word put small 1 row (omega arith) k)
+    (put-empty put small row k ∙ rw e) (ap (λ (x : ℕ). bitOf x row) (put .access)) (ap (λ (x : ℕ). bitOf x row) (put .hit))
+put-here (suc zero) {row} put small h k =
     let e = eq-eqb row row refl in
-    same-row _ _ _ _ _ _ _ _ _ _ (put-word row 1 word m n put small 0 row (omega arith) k) (put-word row 1 word m n put small 1 row (omega arith) k ∙ rw e)
-    (put-empty row 1 word m n put small row k) (ap (λ (x : ℕ). bitOf x row) (put .access)) (ap (λ (x : ℕ). bitOf x row) (put .hit))
-put-here row (suc (suc s)) word m n put small h k = absurd (omega arith)
+    same-row _ _ _ _ _ _ _ _ _ _ (put-word put small 0 row (omega arith) k) (put-word put small 1 row (omega arith) k ∙ rw e)
+    (put-empty put small row k) (ap (λ (x : ℕ). bitOf x row) (put .access)) (ap (λ (x : ℕ). bitOf x row) (put .hit))
+put-here (suc (suc s)) put small h k = absurd (omega arith)
 
-pub rows-written : (row s word : ℕ) (m n : Memory) → Put row s word m n → word < 2 ^ 32 → s < 2 → row < 64 → rowsOf n ≡ change row (written s word) (rowsOf m)
-rows-written row s word m n put small h k = rows-change m n (written s word) row k (put-here row s word m n put small h k) (put-other row s word m n put small)
+pub rows-written : {row s word : ℕ} {m n : Memory} → Put row s word m n → word < 2 ^ 32 → s < 2 → row < 64 → rowsOf n ≡ change row (written s word) (rowsOf m)
+rows-written {row} {s} {word} {m} {n} put small h k = rows-change m n (written s word) row k (put-here s put small h k) (put-other put small)
 
 -- the opening
 word-opened : (s r : ℕ) → s < 2 → wordOf (replicate 64 0) s r ≡ 0

@@ -3,7 +3,7 @@
 --   numberOf f n   the number of n bits whose bit k is f k
 --   withBit k b n  the number of 64 bits with the bits of n, but b at place k
 --   FirstBit n from r   r names the smallest place of a 64-bit number, from or later, whose bit is set
-use Prim.Native.Nat.{ℕ, zero, suc, _+_, _*_, _/_, _%_, _^_, _<_, _≤_}
+use Prim.Native.Nat.{ℕ, zero, suc, _+_, _/_, _%_, _^_, _<_, _≤_}
 use mathlib.Core.Bool.{Bool, true, false, cond}
 use mathlib.Core.Path.{_≡_}
 use lib.Dec.{eqb}

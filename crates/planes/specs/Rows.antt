@@ -15,7 +15,6 @@ use lib.ListN.{getD, length, replicate}
 use Rattle.std.specs.Iters.{counting}
 use Rattle.table.specs.Calls.{rowAt}
 use Rattle.table.specs.Row.{Row, cleared, isEmpty, isHit, wordIn}
-use Rattle.table.specs.declared.parts.Marks.{Marks}
 use Rattle.planes.specs.Bits.{bitOf, numberOf, withBit}
 use Rattle.planes.specs.declared.memory.Memory.{Memory}
 

@@ -1,7 +1,6 @@
-use mathlib.Core.Path.{ap, sym, _∙_}
 use native.Mathlib.Omega.{arith}
-use Prim.Native.Nat.{_^_, _<_, _*_, _%_, _-_}
-use lib.Bits.{bitAnd, bitOr, or-lt, and-le-l}
+use Prim.Native.Nat.{_^_, _*_, _%_, _-_}
+use lib.Bits.{or-lt, and-le-l}
 use Rattle.std.proofs.shelf.Bits.{mod-below}
 use Rattle.planes.proofs.BitLaws.{bitOf-with, bitOf-without, withBit-from}
 use Rattle.planes.proofs.bits.with_bit.Needs as need

@@ -1,4 +1,4 @@
-use mathlib.Core.Path.{ap, sym, _∙_}
+use mathlib.Core.Path.{ap}
 use native.Mathlib.Omega.{arith}
 use Rattle.table.proofs.Checks.{row-granted, row-refused}
 use Rattle.table.specs.Row.{Row}

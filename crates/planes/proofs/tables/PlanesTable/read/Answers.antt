@@ -1,6 +1,5 @@
 use mathlib.Core.Path.{ap, sym, _∙_}
 use native.Mathlib.Omega.{arith}
-use Prim.Native.Nat.{ℕ}
 use Rattle.table.proofs.Checks.{cell-granted, cell-row, cell-segment}
 use Rattle.table.specs.Row.{Row, wordIn}
 use Rattle.planes.specs.Laws.{length-rows, rowAt-rows}

@@ -1,6 +1,5 @@
 use mathlib.Core.Path.{ap, sym}
 use Prim.Native.Nat.{ℕ}
-use Rattle.table.specs.declared.parts.Shape.{Shape}
 use Rattle.planes.specs.Laws.{length-rows}
 use Rattle.planes.proofs.tables.PlanesTable.shape.Needs as need
 

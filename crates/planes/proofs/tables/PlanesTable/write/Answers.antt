@@ -2,7 +2,6 @@ use mathlib.Core.Path.{refl}
 use native.Mathlib.Omega.{arith}
 use Rattle.table.proofs.Checks.{cell-granted, cell-row, cell-segment}
 use Rattle.planes.specs.Laws.{length-rows}
-use Rattle.planes.specs.Rows.{rowsOf}
 use Rattle.planes.proofs.PutLaws.{laid-put, quiet-put, rows-written}
 use Rattle.planes.proofs.tables.PlanesTable.write.Needs as need
 
@@ -23,24 +22,12 @@ returns-then-segment-ge-WIDTH c = record {
 }
 
 pub ghost-self : need.ghost-self
-ghost-self c = (
-  quiet-put (c .args .row) (c .args .segment) (c .args .word) (c .args .self .now .memory) (c .put .last .self) (c .put .ensures) (omega arith)
-      (c .args .self .now .quiet),
-  (
-    laid-put (c .args .row) (c .args .segment) (c .args .word) (c .args .self .now .memory) (c .put .last .self) (c .put .ensures) (omega arith)
-        (c .args .self .now .laid),
-    tt,
-  ),
-)
+ghost-self c = (quiet-put (c .put .ensures) (omega arith) (c .args .self .now .quiet), (laid-put (c .put .ensures) (omega arith) (c .args .self .now .laid), tt))
 
 pub returns : need.returns
-returns c =
-    let m = c .args .self .now .memory in
-    record {
-      answer = cell-granted 2 (rowsOf m) (c .args .row) (c .args .segment) tt (omega (arith, length-rows m)) (c .if-segment-ge-WIDTH .left);
-      rows = rows-written (c .args .row) (c .args .segment) (c .args .word) m (c .put .last .self) (c .put .ensures) (omega arith)
-          (c .if-segment-ge-WIDTH .left) (c .if-row-ge-DEPTH .left);
-      width = refl;
-      frame = laid-put (c .args .row) (c .args .segment) (c .args .word) m (c .put .last .self) (c .put .ensures) (omega arith)
-          (c .args .self .now .laid);
-    }
+returns c = record {
+  answer = cell-granted 2 _ (c .args .row) (c .args .segment) tt (omega (arith, length-rows (c .args .self .now .memory))) (c .if-segment-ge-WIDTH .left);
+  rows = rows-written (c .put .ensures) (omega arith) (c .if-segment-ge-WIDTH .left) (c .if-row-ge-DEPTH .left);
+  width = refl;
+  frame = laid-put (c .put .ensures) (omega arith) (c .args .self .now .laid);
+}
