@@ -7,6 +7,10 @@ ghost use Rattle.table.specs.Faults.{numberOf, placeOf};
 pub enum Place {
     Opening,
     Table,
+    Command,
+    SetUp,
+    Start,
+    Port,
 }
 
 // A table's refusal, with the row or the segment that was asked for.
