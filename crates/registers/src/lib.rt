@@ -1,7 +1,14 @@
-// The registers of an address processor as plain values: what was found, the two ports and their set-up.
+// The registers of an address processor as plain values, and the calls that change nothing else:
+// the set-up of the ports, their starts and their stop.
+mod faults;
 mod setting;
+mod start;
 mod state;
+mod steps;
 
+pub use faults::OutOfRange;
+pub use faults::SetUpFault;
+pub use faults::StartFault;
 pub use setting::BlockWidth;
 pub use setting::Channel;
 pub use setting::ChannelSetUp;
