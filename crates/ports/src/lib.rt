@@ -1,0 +1,12 @@
+// The ports of an address processor: telegrams come in as blocks, results go out as words.
+mod buffers;
+mod faults;
+mod input;
+mod output;
+
+pub use faults::AtStep;
+pub use faults::PortFault;
+pub use faults::PortFaultFromCommand;
+pub use input::BlockAnswer;
+pub use input::block;
+pub use output::word;

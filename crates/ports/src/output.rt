@@ -1,0 +1,2 @@
+// The output port.
+pub fn word() {}
