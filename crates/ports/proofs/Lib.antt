@@ -1,1 +1,2 @@
 mod Shifts
+mod Words
