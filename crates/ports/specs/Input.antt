@@ -73,8 +73,8 @@ stepLeft rs g place b = withFound (foundIn rs) (withInput (searchedInput (stepAt
 abbrev pub openAnswer : ℕ → Registers → InputPlace → ℕ → Result BlockAnswer PortFault
 openAnswer w g place value =
     cond (ltb value (2 ^ bitsOf (g .setup .width)))
-      (cond (ltb (place .block) 64) (cond (runs g place) (stepAnswer w g place) (Ok Taken)) (Err (BlocksGone (place .step))))
-      (Err (TooWide (place .step)))
+    (cond (ltb (place .block) 64) (cond (runs g place) (stepAnswer w g place) (Ok Taken)) (Err (BlocksGone (place .step))))
+    (Err (TooWide (place .step)))
 
 abbrev pub openAsks : Registers → InputPlace → ℕ → Option Search
 openAsks g place value = cond (runs g place) (Some (asked (stepAt g place) (filled g place value))) None

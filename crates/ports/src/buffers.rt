@@ -32,9 +32,18 @@ pub fn shifted_in(buffers: Buffers, width: BlockWidth, value: u32) -> Buffers
 {
     let Buffers { accumulation, sub } = buffers;
     match width {
-        BlockWidth::Eight => Buffers { accumulation: (accumulation << 8) | value, sub: (sub << 8) | (accumulation >> 24) },
-        BlockWidth::Sixteen => Buffers { accumulation: (accumulation << 16) | value, sub: (sub << 16) | (accumulation >> 16) },
-        BlockWidth::ThirtyTwo => Buffers { accumulation: value, sub: accumulation },
+        BlockWidth::Eight => Buffers {
+            accumulation: (accumulation << 8) | value,
+            sub: (sub << 8) | (accumulation >> 24),
+        },
+        BlockWidth::Sixteen => Buffers {
+            accumulation: (accumulation << 16) | value,
+            sub: (sub << 16) | (accumulation >> 16),
+        },
+        BlockWidth::ThirtyTwo => Buffers {
+            accumulation: value,
+            sub: accumulation,
+        },
     }
 }
 

@@ -3,10 +3,12 @@ ghost use mathlib.Core.Path.{_≡_};
 ghost use Rattle.ports.specs.Faults.{numberOf, placeOf, stepIn, told};
 ghost use Rattle.ports.specs.declared.faults.PortFault.the-variants.{InCommand};
 use processor::CommandFault;
+use processor::CommandFaultDebug;
+use processor::CommandFaultPartialEq;
 use table::Place;
 
 // What a command refused to a step of a port, whole.
-#[derive(Clone, Copy)]
+#[derive(Clone, Copy, PartialEq, Eq, Debug)]
 pub struct AtStep {
     pub step: u32,
     pub fault: CommandFault,
@@ -14,7 +16,7 @@ pub struct AtStep {
 
 // Nothing was started; the output has ended; a block's value has too many bits, or 64 blocks are
 // gone, at a step; or what a command refused to a step.
-#[derive(Clone, Copy)]
+#[derive(Clone, Copy, PartialEq, Eq, Debug)]
 pub enum PortFault {
     NotStarted,
     HasEnded,

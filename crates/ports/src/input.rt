@@ -23,7 +23,7 @@ use table::Search;
 use table::Table;
 
 // What became of a block: the sequence had ended, or it was taken, or a search ran at it.
-#[derive(Clone, Copy)]
+#[derive(Clone, Copy, PartialEq, Eq, Debug)]
 pub enum BlockAnswer {
     Ignored,
     Taken,
@@ -42,13 +42,21 @@ pub fn block<T: Table>(processor: &mut Processor<T>, value: u32) -> Result<Block
         Sequence::NotStarted => Err(PortFault::NotStarted),
         Sequence::Ended => Ok(BlockAnswer::Ignored),
         Sequence::Open(place) => {
-            if place.step < 8 { open_block(processor, place, value) } else { Ok(BlockAnswer::Ignored) }
+            if place.step < 8 {
+                open_block(processor, place, value)
+            } else {
+                Ok(BlockAnswer::Ignored)
+            }
         }
     }
 }
 
 // A block of an open sequence.
-fn open_block<T: Table>(processor: &mut Processor<T>, place: InputPlace, value: u32) -> Result<BlockAnswer, PortFault>
+fn open_block<T: Table>(
+    processor: &mut Processor<T>,
+    place: InputPlace,
+    value: u32,
+) -> Result<BlockAnswer, PortFault>
     requires step { ⌜ place .step < 8 ⌝ }
     ensures answer { λ r. ⌜ r ≡ openAnswer (width (now (processor .entry) .table)) (now (processor .entry) .registers) place value ⌝ }
     ensures registers { λ r. ⌜ now (processor .exit) .registers ≡ granted r (openLeft (rows (now (processor .entry) .table)) (now (processor .entry) .registers) place value) (now (processor .entry) .registers) ⌝ }
@@ -65,18 +73,29 @@ fn open_block<T: Table>(processor: &mut Processor<T>, place: InputPlace, value: 
         return Err(PortFault::BlocksGone(place.step));
     }
     let channel = processor.registers.setup.of(input.channel);
-    let buffers = if bit(channel.take, place.block) { shifted_in(input.buffers, width, value) } else { input.buffers };
+    let buffers = if bit(channel.take, place.block) {
+        shifted_in(input.buffers, width, value)
+    } else {
+        input.buffers
+    };
     if bit(channel.start, place.block) {
         run_step(processor, place, buffers)
     } else {
         processor.registers.input.buffers = buffers;
-        processor.registers.input.sequence = Sequence::Open(InputPlace { step: place.step, block: place.block + 1 });
+        processor.registers.input.sequence = Sequence::Open(InputPlace {
+            step: place.step,
+            block: place.block + 1,
+        });
         Ok(BlockAnswer::Taken)
     }
 }
 
 // The search of the step that is next. Only once it was granted is anything put into the registers.
-fn run_step<T: Table>(processor: &mut Processor<T>, place: InputPlace, buffers: Buffers) -> Result<BlockAnswer, PortFault>
+fn run_step<T: Table>(
+    processor: &mut Processor<T>,
+    place: InputPlace,
+    buffers: Buffers,
+) -> Result<BlockAnswer, PortFault>
     requires step { ⌜ place .step < 8 ⌝ }
     requires block { ⌜ place .block < 64 ⌝ }
     ensures answer { λ r. ⌜ r ≡ stepAnswer (width (now (processor .entry) .table)) (now (processor .entry) .registers) place ⌝ }
@@ -85,17 +104,40 @@ fn run_step<T: Table>(processor: &mut Processor<T>, place: InputPlace, buffers: 
     ensures width { λ _. ⌜ width (now (processor .exit) .table) ≡ width (now (processor .entry) .table) ⌝ }
     ensures frame { λ _. ⌜ frame (now (processor .entry) .table) (now (processor .exit) .table) ⌝ }
 {
-    let channel = processor.registers.setup.of(processor.registers.input.channel);
+    let channel = processor
+        .registers
+        .setup
+        .of(processor.registers.input.channel);
     let step = channel.inputs[place.step as usize];
     let key = key(buffers, step.shift);
-    let query = Search { key, mask: step.mask, segment: step.segment, head: step.head, access: step.access };
+    let query = Search {
+        key,
+        mask: step.mask,
+        segment: step.segment,
+        head: step.head,
+        access: step.access,
+    };
     let address = at_step(place.step, processor.search(query))?;
-    processor.registers.input = after_search(processor.registers.input, step, place, buffers, key, address.is_some());
+    processor.registers.input = after_search(
+        processor.registers.input,
+        step,
+        place,
+        buffers,
+        key,
+        address.is_some(),
+    );
     Ok(BlockAnswer::Searched)
 }
 
 // The input port after the search of a step.
-fn after_search(input: Input, step: InputStep, place: InputPlace, buffers: Buffers, key: u32, hit: bool) -> Input
+fn after_search(
+    input: Input,
+    step: InputStep,
+    place: InputPlace,
+    buffers: Buffers,
+    key: u32,
+    hit: bool,
+) -> Input
     requires step { ⌜ place .step < 8 ⌝ }
     requires block { ⌜ place .block < 64 ⌝ }
     ensures answer { λ r. ⌜ r ≡ searchedInput step place buffers key hit input ⌝ }
@@ -107,7 +149,10 @@ fn after_search(input: Input, step: InputStep, place: InputPlace, buffers: Buffe
     after.sequence = if step.end {
         Sequence::Ended
     } else {
-        Sequence::Open(InputPlace { step: place.step + 1, block: place.block + 1 })
+        Sequence::Open(InputPlace {
+            step: place.step + 1,
+            block: place.block + 1,
+        })
     };
     after
 }

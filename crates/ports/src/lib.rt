@@ -6,7 +6,11 @@ mod output;
 
 pub use faults::AtStep;
 pub use faults::PortFault;
+pub use faults::PortFaultDebug;
 pub use faults::PortFaultFromCommand;
+pub use faults::PortFaultPartialEq;
 pub use input::BlockAnswer;
+pub use input::BlockAnswerDebug;
+pub use input::BlockAnswerPartialEq;
 pub use input::block;
 pub use output::word;

@@ -27,7 +27,11 @@ pub fn word<T: Table>(processor: &mut Processor<T>) -> Result<u32, PortFault>
         Sequence::NotStarted => Err(PortFault::NotStarted),
         Sequence::Ended => Err(PortFault::HasEnded),
         Sequence::Open(place) => {
-            if place.step < 8 { open_word(processor, place) } else { Err(PortFault::HasEnded) }
+            if place.step < 8 {
+                open_word(processor, place)
+            } else {
+                Err(PortFault::HasEnded)
+            }
         }
     }
 }
@@ -45,7 +49,10 @@ fn open_word<T: Table>(processor: &mut Processor<T>, place: OutputPlace) -> Resu
     processor.registers.output = if step.end {
         Sequence::Ended
     } else {
-        Sequence::Open(OutputPlace { channel: place.channel, step: place.step + 1 })
+        Sequence::Open(OutputPlace {
+            channel: place.channel,
+            step: place.step + 1,
+        })
     };
     Ok(word)
 }
@@ -60,7 +67,7 @@ fn item_word<T: Table>(processor: &Processor<T>, item: Item) -> Result<u32, Comm
         Item::Key(_) => Ok(0),
         Item::Status => Ok(status(registers)),
         Item::Address if address.is_none() => Ok(0),
-        Item::Address => Ok(0x8000_0000 + address.unwrap_or(0) % 0x4_0000),
+        Item::Address => Ok(0x8000_0000 | (address.unwrap_or(0) & 0x3_ffff)),
         Item::Segment(_) if address.is_none() => Err(CommandFault::NoHitAddress),
         Item::Segment(segment) => processor.read(address.unwrap_or(0), segment),
     }
@@ -73,7 +80,9 @@ fn status(registers: Registers) -> u32
         Channel::A => false,
         Channel::B => true,
     };
-    bit_at(31, registers.found.hit) + (bit_at(30, registers.found.several) + (bit_at(29, channel) + step_bits(&registers.input.hits)))
+    bit_at(31, registers.found.hit)
+        + (bit_at(30, registers.found.several)
+            + (bit_at(29, channel) + step_bits(&registers.input.hits)))
 }
 
 // A flag as a bit of a word.

@@ -4,9 +4,11 @@ ghost use Rattle.processor.specs.Faults.{numberOf, placeOf};
 ghost use Rattle.processor.specs.declared.faults.CommandFault.the-variants.{InTable};
 use table::Place;
 use table::TableFault;
+use table::TableFaultDebug;
+use table::TableFaultPartialEq;
 
 // A command at an address that is not there, or what the table refused, whole.
-#[derive(Clone, Copy)]
+#[derive(Clone, Copy, PartialEq, Eq, Debug)]
 pub enum CommandFault {
     NoHitAddress,
     NoEmptyAddress,

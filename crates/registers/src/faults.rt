@@ -13,7 +13,7 @@ use table::Place;
 pub struct OutOfRange(pub u32);
 
 // A set-up is refused for a number, or while the port that it is for is in a sequence.
-#[derive(Clone, Copy)]
+#[derive(Clone, Copy, PartialEq, Eq, Debug)]
 pub enum SetUpFault {
     OutOfRange(u32),
     SequenceOpen,
@@ -21,7 +21,7 @@ pub enum SetUpFault {
 
 // A start is refused for a number, for a first input step that does not begin a group of searches,
 // or for steps that never end.
-#[derive(Clone, Copy)]
+#[derive(Clone, Copy, PartialEq, Eq, Debug)]
 pub enum StartFault {
     OutOfRange(u32),
     NoHead,
@@ -44,7 +44,7 @@ pub impl From<OutOfRange> for StartFault as StartFaultFromRange {
     }
 }
 
-pub fn below(number: u32, limit: u32) -> Result<(), OutOfRange>
+pub(crate) fn below(number: u32, limit: u32) -> Result<(), OutOfRange>
     ensures answer { λ r. ⌜ r ≡ cond (ltb number limit) (Ok tt) (Err (record { 0 = number })) ⌝ }
 {
     if number < limit {

@@ -8,7 +8,11 @@ mod steps;
 
 pub use faults::OutOfRange;
 pub use faults::SetUpFault;
+pub use faults::SetUpFaultDebug;
+pub use faults::SetUpFaultPartialEq;
 pub use faults::StartFault;
+pub use faults::StartFaultDebug;
+pub use faults::StartFaultPartialEq;
 pub use setting::BlockWidth;
 pub use setting::Channel;
 pub use setting::ChannelSetUp;

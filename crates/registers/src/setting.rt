@@ -62,7 +62,7 @@ pub struct SetUp {
 }
 
 impl InputStep {
-    pub fn fresh() -> InputStep
+    fn fresh() -> InputStep
         ensures answer { λ r. ⌜ r ≡ freshInputStep ⌝ }
     {
         InputStep {
@@ -77,7 +77,7 @@ impl InputStep {
 }
 
 impl OutputStep {
-    pub fn fresh() -> OutputStep
+    fn fresh() -> OutputStep
         ensures answer { λ r. ⌜ r ≡ freshOutputStep ⌝ }
     {
         OutputStep {
@@ -88,7 +88,7 @@ impl OutputStep {
 }
 
 impl ChannelSetUp {
-    pub fn fresh() -> ChannelSetUp
+    fn fresh() -> ChannelSetUp
         ensures answer { λ r. ⌜ r ≡ freshChannel ⌝ }
     {
         ChannelSetUp {
@@ -101,7 +101,7 @@ impl ChannelSetUp {
 }
 
 impl SetUp {
-    pub fn fresh() -> SetUp
+    pub(crate) fn fresh() -> SetUp
         ensures answer { λ r. ⌜ r ≡ freshSetUp ⌝ }
     {
         SetUp {

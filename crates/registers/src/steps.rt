@@ -20,7 +20,7 @@ use crate::state::Registers;
 use crate::state::Sequence;
 
 impl Channel {
-    pub fn numbered(number: u32) -> Result<Channel, OutOfRange>
+    pub(crate) fn numbered(number: u32) -> Result<Channel, OutOfRange>
         ensures answer { λ r. ⌜ r ≡ cond (ltb number 2) (Ok (numbered number)) (Err (record { 0 = number })) ⌝ }
     {
         match number {
@@ -43,7 +43,7 @@ impl SetUp {
 }
 
 impl<P: Copy> Sequence<P> {
-    pub fn is_open(self) -> bool
+    fn is_open(self) -> bool
         ensures answer { λ r. ⌜ r ≡ isOpen self ⌝ }
     {
         match self {
