@@ -28,8 +28,8 @@ pub enum PortFault {
 pub impl From<AtStep> for PortFault as PortFaultFromCommand {
     ghost converts = { λ t r. r ≡ InCommand t };
 
-    fn from(fault: AtStep) -> PortFault {
-        PortFault::InCommand(fault)
+    fn from(refused: AtStep) -> PortFault {
+        PortFault::InCommand(refused)
     }
 }
 

@@ -18,8 +18,8 @@ pub enum CommandFault {
 pub impl From<TableFault> for CommandFault as CommandFaultFromTable {
     ghost converts = { λ t r. r ≡ InTable t };
 
-    fn from(fault: TableFault) -> CommandFault {
-        CommandFault::InTable(fault)
+    fn from(refused: TableFault) -> CommandFault {
+        CommandFault::InTable(refused)
     }
 }
 

@@ -56,7 +56,7 @@ impl<T: Table> Processor<T> {
     {
         match self.registers.found.address {
             None => Err(CommandFault::NoHitAddress),
-            Some(row) => self.read(row, segment),
+            Some(hit) => self.read(hit, segment),
         }
     }
 
@@ -70,7 +70,7 @@ impl<T: Table> Processor<T> {
     {
         match self.registers.found.address {
             None => Err(CommandFault::NoHitAddress),
-            Some(row) => self.write(row, segment, word),
+            Some(hit) => self.write(hit, segment, word),
         }
     }
 
@@ -80,7 +80,7 @@ impl<T: Table> Processor<T> {
     {
         match self.registers.empty {
             None => Err(CommandFault::NoEmptyAddress),
-            Some(row) => self.read(row, segment),
+            Some(empty) => self.read(empty, segment),
         }
     }
 
@@ -94,7 +94,7 @@ impl<T: Table> Processor<T> {
     {
         match self.registers.empty {
             None => Err(CommandFault::NoEmptyAddress),
-            Some(row) => self.write(row, segment, word),
+            Some(empty) => self.write(empty, segment, word),
         }
     }
 
