@@ -7,7 +7,7 @@ use registers::BlockWidth;
 use registers::Buffers;
 
 // Whether a value needs no more bits than a block has.
-pub fn fits(width: BlockWidth, value: u32) -> bool
+pub(crate) fn fits(width: BlockWidth, value: u32) -> bool
     ensures answer { λ r. ⌜ r ≡ ltb value (2 ^ bitsOf width) ⌝ }
 {
     match width {
@@ -18,7 +18,7 @@ pub fn fits(width: BlockWidth, value: u32) -> bool
 }
 
 // Whether a bit of a channel's word is set.
-pub fn bit(word: u64, block: u32) -> bool
+pub(crate) fn bit(word: u64, block: u32) -> bool
     requires below { ⌜ block < 64 ⌝ }
     ensures answer { λ r. ⌜ r ≡ bitOf word block ⌝ }
 {
@@ -26,7 +26,7 @@ pub fn bit(word: u64, block: u32) -> bool
 }
 
 // The buffers once a block has come in.
-pub fn shifted_in(buffers: Buffers, width: BlockWidth, value: u32) -> Buffers
+pub(crate) fn shifted_in(buffers: Buffers, width: BlockWidth, value: u32) -> Buffers
     requires fits { ⌜ value < 2 ^ bitsOf width ⌝ }
     ensures answer { λ r. ⌜ r ≡ shiftedIn (bitsOf width) value buffers ⌝ }
 {
@@ -48,7 +48,7 @@ pub fn shifted_in(buffers: Buffers, width: BlockWidth, value: u32) -> Buffers
 }
 
 // The key of a step with a shift; four bytes on, all of it comes from the sub-accumulation buffer.
-pub fn key(buffers: Buffers, shift: u32) -> u32
+pub(crate) fn key(buffers: Buffers, shift: u32) -> u32
     ensures answer { λ r. ⌜ r ≡ keyAt shift buffers ⌝ }
     ensures examples { λ _. ⌜ FourKeys ⌝ }
 {

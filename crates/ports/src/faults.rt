@@ -34,7 +34,7 @@ pub impl From<AtStep> for PortFault as PortFaultFromCommand {
 }
 
 // A command's answer to a step.
-pub fn at_step<X>(step: u32, answer: Result<X, CommandFault>) -> Result<X, AtStep>
+pub(crate) fn at_step<X>(step: u32, answer: Result<X, CommandFault>) -> Result<X, AtStep>
     ensures answer { λ r. ⌜ r ≡ told step answer ⌝ }
 {
     match answer {

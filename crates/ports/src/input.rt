@@ -2,7 +2,7 @@
 ghost use Prim.Native.Nat.{_^_, _<_};
 ghost use mathlib.Core.List.{map};
 ghost use mathlib.Core.Path.{_≡_};
-ghost use Rattle.ports.specs.Blocks.{bitsOf};
+ghost use Rattle.ports.specs.Ahead.{StaysAhead};
 ghost use Rattle.ports.specs.Input.{asked, blockAnswer, blockAsks, blockLeft, openAnswer, openAsks, openLeft, ran, searchedInput, stepAnswer, stepAt, stepLeft};
 ghost use Rattle.table.specs.Calls.{granted};
 ghost use Rattle.table.specs.Row.{searched};
@@ -50,6 +50,12 @@ pub fn block<T: Table>(processor: &mut Processor<T>, value: u32) -> Result<Block
         }
     }
 }
+
+// An open sequence always has an end flag before it, whatever calls were made, so it never runs past
+// the steps of its channel, and a block is ignored only after the end.
+pub fn sequences_end()
+    ensures law { λ _. ⌜ StaysAhead ⌝ }
+{}
 
 // A block of an open sequence.
 fn open_block<T: Table>(

@@ -13,4 +13,5 @@ pub use input::BlockAnswer;
 pub use input::BlockAnswerDebug;
 pub use input::BlockAnswerPartialEq;
 pub use input::block;
+pub use input::sequences_end;
 pub use output::word;

@@ -9,7 +9,7 @@ use lib.ListN.{length, getD}
 use Rattle.registers.specs.Start.{someEnds}
 
 module _ {S : Type 0} (ends : S → Bool) (d : S) where
-  someEnds-step : (steps : List S) (n : ℕ) → n < length steps → someEnds ends steps n ≡ (ends (getD steps n d) || someEnds ends steps (suc n))
+  pub someEnds-step : (steps : List S) (n : ℕ) → n < length steps → someEnds ends steps n ≡ (ends (getD steps n d) || someEnds ends steps (suc n))
   unfolding someEnds
   someEnds-step [] n h = absurd (omega arith)
   someEnds-step (step ∷ []) zero h = refl
