@@ -4,6 +4,8 @@ ghost use Rattle.registers.specs.Fresh.{fresh};
 use registers::Registers;
 use table::Table;
 
+// Both parts are plain: set-up, starts and stop are calls of the registers, and the ports stand in a
+// crate above. Every call is right for any registers, also for those that were put there by hand.
 #[derive(Drop)]
 pub struct Processor<T> {
     pub table: T,

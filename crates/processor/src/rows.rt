@@ -110,14 +110,11 @@ impl<T: Table> Processor<T> {
             None => Err(CommandFault::NoEmptyAddress),
             Some(row) => {
                 let marks = self.table.marks(row)?;
-                self.table
-                    .set_marks(
-                        row,
-                        Marking {
-                            empty: false,
-                            access: marks.access,
-                        },
-                    )?;
+                let valid = Marking {
+                    empty: false,
+                    access: marks.access,
+                };
+                self.table.set_marks(row, valid)?;
                 Ok(())
             }
         }
