@@ -1,0 +1,3 @@
+mod Endings
+mod Shifts
+mod Words

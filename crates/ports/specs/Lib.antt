@@ -1,0 +1,5 @@
+pub mod Ahead
+pub mod Blocks
+pub mod Faults
+pub mod Input
+pub mod Output

@@ -1,0 +1,4 @@
+pub mod Faults
+pub mod Fresh
+pub mod Setting
+pub mod Start
