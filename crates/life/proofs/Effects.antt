@@ -82,7 +82,7 @@ row-effect s ClearAccess = (inr refl, refl)
 row-effect s Reset = tt
 
 searching : {X F : Type 0} (res : Result X F) (q : Search) (rs : List Row) (new g : Registers) → address new ≡ first isHit (map (searched q) rs) 0
-  → Does (granted res (searches q) neither) rs g (granted res (map (searched q) rs) rs) (granted res new g)
+    → Does (granted res (searches q) neither) rs g (granted res (map (searched q) rs) rs) (granted res new g)
 searching (Ok x) q rs new g e = (refl, e)
 searching (Err f) q rs new g e = kept rs g
 
@@ -104,11 +104,11 @@ set-up-effect s (BlockWidth bits) = setting (widthChecked bits (s .registers)) _
 
 -- a block in an open sequence: within the steps, narrow enough, early enough, and whether a search runs
 blocking : (in-steps narrow early asks : Bool) (res : Result BlockAnswer PortFault) (late wide : PortFault) (q : Search) (rs : List Row) (g : Registers)
-  (left : List Row → Registers) (taken : Registers) → ((rs′ : List Row) → address (left rs′) ≡ first isHit rs′ 0) → address taken ≡ address g
-  → let told = cond in-steps (cond narrow (cond early (cond asks res (Ok Taken)) (Err late)) (Err wide)) (Ok Ignored) in
+    (left : List Row → Registers) (taken : Registers) → ((rs′ : List Row) → address (left rs′) ≡ first isHit rs′ 0) → address taken ≡ address g
+    → let told = cond in-steps (cond narrow (cond early (cond asks res (Ok Taken)) (Err late)) (Err wide)) (Ok Ignored) in
     let wants = cond asks (Some q) None in
     Does (granted told (ifAny (cond in-steps wants None)) neither) rs g (granted told (ran (cond in-steps wants None) rs) rs)
-      (granted told (cond in-steps (cond asks (left (ran wants rs)) taken) g) g)
+    (granted told (cond in-steps (cond asks (left (ran wants rs)) taken) g) g)
 blocking false narrow early asks res late wide q rs g left taken h e = kept rs g
 blocking true false early asks res late wide q rs g left taken h e = kept rs g
 blocking true true false asks res late wide q rs g left taken h e = kept rs g
@@ -117,7 +117,7 @@ blocking true true true true (Ok a) late wide q rs g left taken h e = (refl, h (
 blocking true true true true (Err f) late wide q rs g left taken h e = kept rs g
 
 block-effect : (w : ℕ) (rs : List Row) (g : Registers) (v : ℕ) (seq : Sequence InputPlace)
-  → Does (granted (blockAnswer w g v seq) (ifAny (blockAsks g v seq)) neither) rs g (granted (blockAnswer w g v seq) (ran (blockAsks g v seq) rs) rs)
+    → Does (granted (blockAnswer w g v seq) (ifAny (blockAsks g v seq)) neither) rs g (granted (blockAnswer w g v seq) (ran (blockAsks g v seq) rs) rs)
     (granted (blockAnswer w g v seq) (blockLeft rs g v seq) g)
 block-effect w rs g v NotStarted = kept rs g
 block-effect w rs g v Ended = kept rs g

@@ -68,9 +68,9 @@ stands-row S q e was row h = record {
   words = h .words;
   empty = h .empty;
   hit = ap (λ ws. hits-by q ws (isEmpty row) (q .head) (isHit row)) (h .words) ∙ ap (λ b. hits-by q (was .words) b (q .head) (isHit row)) (h .empty)
-    ∙ ap (λ b. hits-by q (was .words) (isEmpty was) b (isHit row)) e ∙ ap (hits-by q (was .words) (isEmpty was) false) (h .hit)
-    ∙ step-hit (not (isEmpty was)) (agrees q (getD (was .words) (q .segment) 0)) (agreesWith S (was .words))
-    ∙ sym (ap (λ b. not (isEmpty was) && b) (agrees-push S q (was .words)));
+      ∙ ap (λ b. hits-by q (was .words) (isEmpty was) b (isHit row)) e ∙ ap (hits-by q (was .words) (isEmpty was) false) (h .hit)
+      ∙ step-hit (not (isEmpty was)) (agrees q (getD (was .words) (q .segment) 0)) (agreesWith S (was .words))
+      ∙ sym (ap (λ b. not (isEmpty was) && b) (agrees-push S q (was .words)));
 }
 
 pub stands-next : (S : List Search) (q : Search) → q .head ≡ false → (R rs : List Row) → Each (Stands S) R rs → Each (Stands (S ++ q ∷ [])) R (map (searched q) rs)

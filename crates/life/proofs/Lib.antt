@@ -1,4 +1,5 @@
 pub mod Counts
 pub mod Effects
 pub mod Groups
-pub mod Lives
+pub mod Complete
+pub mod Turns

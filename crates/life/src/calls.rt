@@ -39,10 +39,24 @@ pub enum WalkCall {
 // Sets up the ports.
 #[derive(Clone, Copy)]
 pub enum SetUpCall {
-    InputStep { channel: u32, step: u32, to: InputStep },
-    OutputStep { channel: u32, step: u32, to: OutputStep },
-    Blocks { channel: u32, take: u64, start: u64 },
-    BlockWidth { bits: u32 },
+    InputStep {
+        channel: u32,
+        step: u32,
+        to: InputStep,
+    },
+    OutputStep {
+        channel: u32,
+        step: u32,
+        to: OutputStep,
+    },
+    Blocks {
+        channel: u32,
+        take: u64,
+        start: u64,
+    },
+    BlockWidth {
+        bits: u32,
+    },
 }
 
 // Runs the ports.

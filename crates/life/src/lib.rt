@@ -2,6 +2,7 @@
 // law that walks over hits are complete.
 mod calls;
 mod faults;
+mod lives;
 mod working;
 
 pub use calls::Answer;
@@ -11,4 +12,5 @@ pub use calls::RowCall;
 pub use calls::SetUpCall;
 pub use calls::WalkCall;
 pub use faults::Fault;
+pub use lives::work;
 pub use working::perform;

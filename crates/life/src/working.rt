@@ -54,7 +54,10 @@ fn on_row<T: Table>(processor: &mut Processor<T>, call: RowCall) -> Answer
         RowCall::ReadAtHit { segment } => word_read(processor.read_at_hit(segment)),
         RowCall::WriteAtHit { segment, word } => commanded(processor.write_at_hit(segment, word)),
         RowCall::ReadAtEmpty { segment } => word_read(processor.read_at_empty(segment)),
-        RowCall::WriteAtEmpty { segment, word } => commanded(processor.write_at_empty(segment, word)),
+        RowCall::WriteAtEmpty { segment, word } => commanded(processor.write_at_empty(
+            segment,
+            word,
+        )),
         RowCall::Append => commanded(processor.append()),
         RowCall::Purge(kind) => {
             processor.purge(kind);
@@ -96,9 +99,21 @@ fn on_set_up<T: Table>(processor: &mut Processor<T>, call: SetUpCall) -> Answer
 {
     let registers = &mut processor.registers;
     match call {
-        SetUpCall::InputStep { channel, step, to } => set_up(registers.set_input_step(channel, step, to)),
-        SetUpCall::OutputStep { channel, step, to } => set_up(registers.set_output_step(channel, step, to)),
-        SetUpCall::Blocks { channel, take, start } => set_up(registers.set_blocks(channel, take, start)),
+        SetUpCall::InputStep { channel, step, to } => set_up(registers.set_input_step(
+            channel,
+            step,
+            to,
+        )),
+        SetUpCall::OutputStep { channel, step, to } => set_up(registers.set_output_step(
+            channel,
+            step,
+            to,
+        )),
+        SetUpCall::Blocks {
+            channel,
+            take,
+            start,
+        } => set_up(registers.set_blocks(channel, take, start)),
         SetUpCall::BlockWidth { bits } => set_up(registers.set_block_width(bits)),
     }
 }
@@ -111,8 +126,12 @@ fn on_port<T: Table>(processor: &mut Processor<T>, call: PortCall) -> Answer
     ensures frame { λ _. ⌜ frame (now (processor .entry) .table) (now (processor .exit) .table) ⌝ }
 {
     match call {
-        PortCall::StartInput { channel, step } => started(processor.registers.start_input(channel, step)),
-        PortCall::StartOutput { channel, step } => started(processor.registers.start_output(channel, step)),
+        PortCall::StartInput { channel, step } => started(
+            processor.registers.start_input(channel, step),
+        ),
+        PortCall::StartOutput { channel, step } => started(
+            processor.registers.start_output(channel, step),
+        ),
         PortCall::Stop => {
             processor.registers.stop();
             Answer::Done

@@ -37,7 +37,7 @@ good-next R rs S n (Some a) h =
 
 -- a search begins a group or goes on with it
 good-search : (q : Search) (rs : List Row) (p : Place) (a : Option ℕ) → Good p rs a
-  → Good (led (searches q) rs p) (map (searched q) rs) (first isHit (map (searched q) rs) 0)
+    → Good (led (searches q) rs p) (map (searched q) rs) (first isHit (map (searched q) rs) 0)
 good-search q rs p a h = at (q .head) refl p h
   where
     at : (b : Bool) → q .head ≡ b → (p : Place) → Good p rs a → Good (cond b (walking rs (q ∷ []) 1) (joined q p)) (map (searched q) rs) (first isHit (map (searched q) rs) 0)
@@ -73,7 +73,7 @@ named outside rs a h = tt
 named (walking R S n) rs a h = h .1
 
 good-life : (p : Place) (s : State) (calls : List Call) → Good p (s .rows) (address (s .registers))
-  → Named (placeAfter p s calls) (address (lived s calls .registers))
+    → Named (placeAfter p s calls) (address (lived s calls .registers))
 unfolding placeAfter lived
 good-life p s [] h = named p (s .rows) (address (s .registers)) h
 good-life p s (c ∷ cs) h =
