@@ -1,10 +1,10 @@
 // A join is a table, over every two tables.
-ghost use Prim.Native.Nat.{min, _+_};
+ghost use Prim.Native.Nat.{_+_};
 ghost use mathlib.Core.Path.{_≡_};
 ghost use lib.ListN.{length};
 ghost use Rattle.std.specs.Options.{mapped};
 ghost use Rattle.table.specs.Calls.{onCell, onRow};
-ghost use Rattle.join.specs.Joined.{joinRows, seatOf, within};
+ghost use Rattle.join.specs.Joined.{joinedRows, joinedWidth, seatOf, within};
 ghost use Rattle.join.specs.Sound.{join-sound};
 use crate::joins::Join;
 use crate::joins::Seat;
@@ -43,7 +43,7 @@ fn seat(border: u32, row: u32) -> Seat
 impl<U: Table, L: Table> Join<U, L> {
     // Where a row lies that the join has.
     fn row(&self, row: u32) -> Result<Seat, TableFault>
-        ensures answer { λ r. ⌜ r ≡ onRow (joinRows 262144 (min (U·Table .width (now (self .entry) .upper)) (L·Table .width (now (self .entry) .lower))) (U·Table .rows (now (self .entry) .upper)) (L·Table .rows (now (self .entry) .lower))) row (seatOf (length (U·Table .rows (now (self .entry) .upper))) row) ⌝ }
+        ensures answer { λ r. ⌜ r ≡ onRow (joinedRows (U·Table .width) (L·Table .width) 262144 (U·Table .rows) (L·Table .rows) (now (self .entry))) row (seatOf (length (U·Table .rows (now (self .entry) .upper))) row) ⌝ }
     {
         let upper = self.upper.shape();
         let lower = self.lower.shape();
@@ -56,7 +56,7 @@ impl<U: Table, L: Table> Join<U, L> {
 
     // Where a row lies, if the join has that row and that segment.
     fn cell(&self, row: u32, segment: u32) -> Result<Seat, TableFault>
-        ensures answer { λ r. ⌜ r ≡ onCell (min (U·Table .width (now (self .entry) .upper)) (L·Table .width (now (self .entry) .lower))) (joinRows 262144 (min (U·Table .width (now (self .entry) .upper)) (L·Table .width (now (self .entry) .lower))) (U·Table .rows (now (self .entry) .upper)) (L·Table .rows (now (self .entry) .lower))) row segment (seatOf (length (U·Table .rows (now (self .entry) .upper))) row) ⌝ }
+        ensures answer { λ r. ⌜ r ≡ onCell (joinedWidth (U·Table .width) (L·Table .width) (now (self .entry))) (joinedRows (U·Table .width) (L·Table .width) 262144 (U·Table .rows) (L·Table .rows) (now (self .entry))) row segment (seatOf (length (U·Table .rows (now (self .entry) .upper))) row) ⌝ }
     {
         let upper = self.upper.shape();
         let lower = self.lower.shape();
@@ -71,9 +71,9 @@ impl<U: Table, L: Table> Join<U, L> {
 }
 
 pub impl<U: Table, L: Table> Table for Join<U, L> as JoinTable {
-    ghost width = { λ j. min (U·Table .width (j .upper)) (L·Table .width (j .lower)) };
+    ghost width = { joinedWidth (U·Table .width) (L·Table .width) };
 
-    ghost rows = { λ j. joinRows 262144 (min (U·Table .width (j .upper)) (L·Table .width (j .lower))) (U·Table .rows (j .upper)) (L·Table .rows (j .lower)) };
+    ghost rows = { joinedRows (U·Table .width) (L·Table .width) 262144 (U·Table .rows) (L·Table .rows) };
 
     ghost sound = { λ j. join-sound (U·Table .width (j .upper)) (L·Table .width (j .lower)) (U·Table .rows (j .upper)) (L·Table .rows (j .lower)) (U·Table .sound (j .upper)) (L·Table .sound (j .lower)) };
 
