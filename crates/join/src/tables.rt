@@ -1,5 +1,5 @@
 // A join is a table, over every two tables.
-ghost use Prim.Native.Nat.{_+_};
+ghost use Prim.Native.Nat.{min, _+_};
 ghost use mathlib.Core.Path.{_≡_};
 ghost use lib.ListN.{length};
 ghost use Rattle.std.specs.Options.{mapped};
@@ -18,6 +18,16 @@ use table::TableFault;
 
 // No table is deeper.
 const MAX_DEPTH: u32 = 262_144;
+
+// The shape of a join of two tables of these shapes.
+fn together(upper: Shape, lower: Shape) -> Shape
+    ensures answer { λ r. ⌜ r ≡ record { width = min (upper .width) (lower .width); depth = min 262144 (upper .depth + lower .depth) } ⌝ }
+{
+    Shape {
+        width: upper.width.min(lower.width),
+        depth: MAX_DEPTH.min(upper.depth.saturating_add(lower.depth)),
+    }
+}
 
 // The number in the join of a row that the lower table named, if the join has that row.
 fn below(border: u32, found: Option<u32>) -> Option<u32>
@@ -46,8 +56,8 @@ impl<U: Table, L: Table> Join<U, L> {
         ensures answer { λ r. ⌜ r ≡ onRow (joinedRows (U·Table .width) (L·Table .width) 262144 (U·Table .rows) (L·Table .rows) (now (self .entry))) row (seatOf (length (U·Table .rows (now (self .entry) .upper))) row) ⌝ }
     {
         let upper = self.upper.shape();
-        let lower = self.lower.shape();
-        if row < MAX_DEPTH.min(upper.depth + lower.depth) {
+        let joined = together(upper, self.lower.shape());
+        if row < joined.depth {
             Ok(seat(upper.depth, row))
         } else {
             Err(TableFault::Row(row))
@@ -59,10 +69,10 @@ impl<U: Table, L: Table> Join<U, L> {
         ensures answer { λ r. ⌜ r ≡ onCell (joinedWidth (U·Table .width) (L·Table .width) (now (self .entry))) (joinedRows (U·Table .width) (L·Table .width) 262144 (U·Table .rows) (L·Table .rows) (now (self .entry))) row segment (seatOf (length (U·Table .rows (now (self .entry) .upper))) row) ⌝ }
     {
         let upper = self.upper.shape();
-        let lower = self.lower.shape();
-        if row >= MAX_DEPTH.min(upper.depth + lower.depth) {
+        let joined = together(upper, self.lower.shape());
+        if row >= joined.depth {
             Err(TableFault::Row(row))
-        } else if segment >= upper.width.min(lower.width) {
+        } else if segment >= joined.width {
             Err(TableFault::Segment(segment))
         } else {
             Ok(seat(upper.depth, row))
@@ -84,12 +94,7 @@ pub impl<U: Table, L: Table> Table for Join<U, L> as JoinTable {
     ghost chain = { λ a b c p q. (U·Table .chain (a .upper) (b .upper) (c .upper) (p .0) (q .0), L·Table .chain (a .lower) (b .lower) (c .lower) (p .1) (q .1)) };
 
     fn shape(&self) -> Shape {
-        let upper = self.upper.shape();
-        let lower = self.lower.shape();
-        Shape {
-            width: upper.width.min(lower.width),
-            depth: MAX_DEPTH.min(upper.depth + lower.depth),
-        }
+        together(self.upper.shape(), self.lower.shape())
     }
 
     fn read(&self, row: u32, segment: u32) -> Result<u32, TableFault> {
@@ -121,8 +126,7 @@ pub impl<U: Table, L: Table> Table for Join<U, L> as JoinTable {
     }
 
     fn search(&mut self, query: Search) -> Result<(), TableFault> {
-        let width = self.upper.shape().width.min(self.lower.shape().width);
-        if query.segment >= width {
+        if query.segment >= self.shape().width {
             return Err(TableFault::Segment(query.segment));
         }
         self.upper.search(query)?;

@@ -6,8 +6,8 @@ use Rattle.join.proofs.Alls.{search-granted, searched-all, segment-stands}
 use Rattle.join.proofs.Cuts.{even-searched}
 use Rattle.join.proofs.tables.JoinTable.search.Needs as need
 
-pub returns-then-query-width : need.returns-then-query-width
-returns-then-query-width g c = search (needs, segment-refused)
+pub returns-then-query-shape : need.returns-then-query-shape
+returns-then-query-shape g c = search (needs, segment-refused)
 
 pub returns-in-Break-search : need.returns-in-Break-search
 returns-in-Break-search g c =
