@@ -14,6 +14,16 @@ use table::Shape;
 use table::Table;
 use table::TableFault;
 
+// The shape that a table has behind a fence.
+fn fenced(hidden: u32, whole: Shape) -> Shape
+    ensures answer { λ r. ⌜ r ≡ record { width = whole .width; depth = whole .depth - hidden } ⌝ }
+{
+    Shape {
+        width: whole.width,
+        depth: whole.depth.saturating_sub(hidden),
+    }
+}
+
 // The number in the fence of a row that the table named.
 fn outside(hidden: u32, found: Option<u32>) -> Option<u32>
     ensures answer { λ r. ⌜ r ≡ mapped (λ row. row - hidden) found ⌝ }
@@ -29,8 +39,8 @@ impl<T: Table> Fence<T> {
     fn behind(&self, row: u32) -> Result<u32, TableFault>
         ensures answer { λ r. ⌜ r ≡ onRow (shown (now (self .entry) .hidden) (T·Table .rows (now (self .entry) .table))) row (now (self .entry) .hidden + row) ⌝ }
     {
-        let depth = self.table.shape().depth.saturating_sub(self.hidden);
-        if row < depth {
+        let shape = fenced(self.hidden, self.table.shape());
+        if row < shape.depth {
             Ok(self.hidden + row)
         } else {
             Err(TableFault::Row(row))
@@ -41,8 +51,8 @@ impl<T: Table> Fence<T> {
     fn cell(&self, row: u32, segment: u32) -> Result<u32, TableFault>
         ensures answer { λ r. ⌜ r ≡ onCell (T·Table .width (now (self .entry) .table)) (shown (now (self .entry) .hidden) (T·Table .rows (now (self .entry) .table))) row segment (now (self .entry) .hidden + row) ⌝ }
     {
-        let shape = self.table.shape();
-        if row >= shape.depth.saturating_sub(self.hidden) {
+        let shape = fenced(self.hidden, self.table.shape());
+        if row >= shape.depth {
             Err(TableFault::Row(row))
         } else if segment >= shape.width {
             Err(TableFault::Segment(segment))
@@ -67,11 +77,7 @@ pub impl<T: Table> Table for Fence<T> as FenceTable {
     ghost chain = { λ a b c p q. (q .0 ∙ p .0, T·Table .chain (a .table) (b .table) (c .table) (p .1) (q .1)) };
 
     fn shape(&self) -> Shape {
-        let whole = self.table.shape();
-        Shape {
-            width: whole.width,
-            depth: whole.depth.saturating_sub(self.hidden),
-        }
+        fenced(self.hidden, self.table.shape())
     }
 
     fn read(&self, row: u32, segment: u32) -> Result<u32, TableFault> {
