@@ -15,11 +15,11 @@ impl<T> Fence<T> {
         Fence { hidden, table }
     }
 
-    // The table with all its rows.
-    pub fn into_table(self) -> T
-        ensures answer { λ r. ⌜ r ≡ self .table ⌝ }
+    // The number of hidden rows, and the table with all its rows.
+    pub fn into_parts(self) -> (u32, T)
+        ensures answer { λ r. ⌜ r ≡ (self .hidden, self .table) ⌝ }
     {
-        let Fence { hidden: _, table } = self;
-        table
+        let Fence { hidden, table } = self;
+        (hidden, table)
     }
 }

@@ -51,20 +51,20 @@ fn seat(border: u32, row: u32) -> Seat
 }
 
 impl<U: Table, L: Table> Join<U, L> {
-    // Where a row lies that the join has.
-    fn row(&self, row: u32) -> Result<Seat, TableFault>
-        ensures answer { λ r. ⌜ r ≡ onRow (joinedRows (U·Table .width) (L·Table .width) 262144 (U·Table .rows) (L·Table .rows) (now (self .entry))) row (seatOf (length (U·Table .rows (now (self .entry) .upper))) row) ⌝ }
+    // Where the row that was asked for lies, if the join has it.
+    fn holder(&self, asked: u32) -> Result<Seat, TableFault>
+        ensures answer { λ r. ⌜ r ≡ onRow (joinedRows (U·Table .width) (L·Table .width) 262144 (U·Table .rows) (L·Table .rows) (now (self .entry))) asked (seatOf (length (U·Table .rows (now (self .entry) .upper))) asked) ⌝ }
     {
         let upper = self.upper.shape();
         let joined = together(upper, self.lower.shape());
-        if row < joined.depth {
-            Ok(seat(upper.depth, row))
+        if asked < joined.depth {
+            Ok(seat(upper.depth, asked))
         } else {
-            Err(TableFault::Row(row))
+            Err(TableFault::Row(asked))
         }
     }
 
-    // Where a row lies, if the join has that row and that segment.
+    // The same, if the join has that segment too.
     fn cell(&self, row: u32, segment: u32) -> Result<Seat, TableFault>
         ensures answer { λ r. ⌜ r ≡ onCell (joinedWidth (U·Table .width) (L·Table .width) (now (self .entry))) (joinedRows (U·Table .width) (L·Table .width) 262144 (U·Table .rows) (L·Table .rows) (now (self .entry))) row segment (seatOf (length (U·Table .rows (now (self .entry) .upper))) row) ⌝ }
     {
@@ -112,14 +112,14 @@ pub impl<U: Table, L: Table> Table for Join<U, L> as JoinTable {
     }
 
     fn marks(&self, row: u32) -> Result<Marks, TableFault> {
-        match self.row(row)? {
+        match self.holder(row)? {
             Seat::Upper(row) => self.upper.marks(row),
             Seat::Lower(row) => self.lower.marks(row),
         }
     }
 
     fn set_marks(&mut self, row: u32, marking: Marking) -> Result<(), TableFault> {
-        match self.row(row)? {
+        match self.holder(row)? {
             Seat::Upper(row) => self.upper.set_marks(row, marking),
             Seat::Lower(row) => self.lower.set_marks(row, marking),
         }

@@ -24,12 +24,12 @@ module _ (p : Row → Bool) where
 
   -- the head fails or lies before m, and the rows behind it fail from n on
   fails-later : (row : Row) (rs : List Row) (n m b : ℕ) → (m ≡ 0 → p row ≡ false) → ((k : ℕ) → m ≤ suc k → n ≤ k)
-    → ((k : ℕ) → n ≤ k → k < b → p (rowAt rs k) ≡ false) → (k : ℕ) → m ≤ k → k < suc b → p (rowAt (row ∷ rs) k) ≡ false
+      → ((k : ℕ) → n ≤ k → k < b → p (rowAt rs k) ≡ false) → (k : ℕ) → m ≤ k → k < suc b → p (rowAt (row ∷ rs) k) ≡ false
   fails-later row rs n m b head from h zero le lt = head (omega arith)
   fails-later row rs n m b head from h (suc k) le lt = h k (from k le) (omega arith)
 
   least-later : (row : Row) (rs : List Row) (n m : ℕ) → (m ≡ 0 → p row ≡ false) → ((k : ℕ) → m ≤ suc k → n ≤ k) → m ≤ suc n
-    → (r : Option ℕ) → Least p rs n r → Least p (row ∷ rs) m (mapped suc r)
+      → (r : Option ℕ) → Least p rs n r → Least p (row ∷ rs) m (mapped suc r)
   least-later row rs n m head from to None h = fails-later row rs n m (length rs) head from h
   least-later row rs n m head from to (Some a) h = (omega arith, omega arith, h .2, fails-later row rs n m a head from (h .3))
 

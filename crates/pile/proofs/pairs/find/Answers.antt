@@ -1,14 +1,15 @@
 use borrow.Author.Needs.{needs}
 use Rattle.std.proofs.shelf.Results.{err-from-errBy}
 use Rattle.table.proofs.Checks.{segment-granted}
-use Rattle.table.proofs.Told.{segment-refusal, segment-told}
+use Rattle.table.proofs.Refusals.{segment-alike}
+use Rattle.table.proofs.Told.{segment-told}
 use Rattle.pile.proofs.pairs.find.Needs as need
 
 pub returns-in-Break-search : need.returns-in-Break-search
 returns-in-Break-search g c =
     let p = err-from-errBy (c .from-residual .result) (c .from-residual .ensures .1) in
     let refused = c .in-Break-search .ensures tt in
-    rw (p .1, p .2) (record { answer = segment-refusal _ _ _ _ _ (refused .answer); rows = refused .rows; width = refused .width; frame = refused .frame })
+    rw (p .1, p .2) (record { answer = segment-alike _ _ _ _ _ (refused .answer); rows = refused .rows; width = refused .width; frame = refused .frame })
 
 pub returns : need.returns
 returns g c =

@@ -1,13 +1,13 @@
 use borrow.Author.Needs.{needs}
 use Rattle.std.proofs.shelf.Results.{err-from-errBy}
-use Rattle.table.proofs.Told.{row-refusal}
+use Rattle.table.proofs.Refusals.{row-alike}
 use Rattle.join.proofs.Seats.{marks-lower, marks-upper, row-lower, row-upper}
 use Rattle.join.proofs.tables.JoinTable.marks.Needs as need
 
 pub returns-in-Break-row : need.returns-in-Break-row
 returns-in-Break-row g c =
     let p = err-from-errBy (c .from-residual .result) (c .from-residual .ensures .1) in
-    rw (p .1, p .2) (record { answer = row-refusal _ _ _ _ _ (c .in-Break-row .ensures tt .answer) })
+    rw (p .1, p .2) (record { answer = row-alike _ _ _ _ _ (c .in-Break-row .ensures tt .answer) })
 
 pub returns-in-Upper : need.returns-in-Upper
 returns-in-Upper g c =

@@ -1,13 +1,13 @@
 use borrow.Author.Needs.{needs}
 use Rattle.std.proofs.shelf.Results.{err-from-errBy}
-use Rattle.table.proofs.Told.{cell-refusal}
+use Rattle.table.proofs.Refusals.{cell-alike}
 use Rattle.join.proofs.Seats.{cell-lower, cell-upper, read-lower, read-upper}
 use Rattle.join.proofs.tables.JoinTable.read.Needs as need
 
 pub returns-in-Break-row : need.returns-in-Break-row
 returns-in-Break-row g c =
     let p = err-from-errBy (c .from-residual .result) (c .from-residual .ensures .1) in
-    rw (p .1, p .2) (record { answer = cell-refusal _ _ _ _ _ _ _ (c .in-Break-row .ensures tt .answer) })
+    rw (p .1, p .2) (record { answer = cell-alike _ _ _ _ _ _ _ (c .in-Break-row .ensures tt .answer) })
 
 pub returns-in-Upper : need.returns-in-Upper
 returns-in-Upper g c =

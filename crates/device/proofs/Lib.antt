@@ -1,0 +1,4 @@
+pub mod FirstRow
+pub mod Quiet
+pub mod Remarked
+pub mod Writes

@@ -1,0 +1,3 @@
+// Joins and fences at worked examples: tests only.
+#[cfg(test)]
+mod tests;
