@@ -3,3 +3,5 @@ pub mod Changes
 pub mod First
 pub mod Granted
 pub mod Refusals
+pub mod Splits
+pub mod Told
