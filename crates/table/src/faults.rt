@@ -7,6 +7,7 @@ ghost use Rattle.table.specs.Faults.{numberOf, placeOf};
 pub enum Place {
     Opening,
     Table,
+    Flags,
 }
 
 // A table's refusal, with the row or the segment that was asked for.
