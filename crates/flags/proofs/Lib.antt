@@ -4,3 +4,4 @@ pub mod Hits
 pub mod Empties
 pub mod Checks
 pub mod HandedOn
+pub mod Readings
