@@ -4,7 +4,7 @@ use mathlib.Core.Bool.{true, false}
 use mathlib.Core.List.{List, _∷_}
 use mathlib.Core.Path.{_≡_, _∙_}
 use Rattle.flags.proofs.Found.{flag-before, flag-found, flag-none, found-passes}
-use Rattle.flags.specs.Kinds.{fullFrom, fullJoined}
+use Rattle.flags.specs.Kinds.{fullFrom}
 use Rattle.flags.specs.Laws.{between}
 use Rattle.flags.specs.Proved.{full-laws}
 use Rattle.flags.specs.declared.full.FullFlag.{FullFlag}
@@ -23,12 +23,12 @@ full-here row rs n e = rw e
 
 module _ (rs : List Row) (a b : ℕ) where
   pub full-none : None ≡ first isEmpty rs a → fullFrom (between a b rs) a ≡ Full
-  full-none e = flag-none fullFrom fullJoined Full full-laws isEmpty full-skip rs a b e
+  full-none e = flag-none full-laws isEmpty full-skip rs a b e
 
   pub full-before : (row : ℕ) → Some row ≡ first isEmpty rs a → b ≤ row → fullFrom (between a b rs) a ≡ Full
-  full-before row e end = flag-before fullFrom fullJoined Full full-laws isEmpty full-skip rs a b row e end
+  full-before row e end = flag-before full-laws isEmpty full-skip rs a b row e end
 
   pub full-empty : (row : ℕ) → Some row ≡ first isEmpty rs a → row < b → fullFrom (between a b rs) a ≡ EmptyAt row
   full-empty row e lt =
-      flag-found fullFrom fullJoined Full full-laws isEmpty full-skip rs a b row e lt
-      ∙ full-here (rowAt rs row) (between (row + 1) b rs) row (found-passes fullFrom fullJoined Full full-laws isEmpty full-skip rs a row e)
+      flag-found full-laws isEmpty full-skip rs a b row e lt
+      ∙ full-here (rowAt rs row) (between (row + 1) b rs) row (found-passes full-laws isEmpty full-skip rs a row e)

@@ -15,7 +15,7 @@ use Rattle.table.specs.Calls.{first, rowAt}
 use Rattle.table.specs.Laws.{Least}
 use Rattle.table.specs.Row.{Row, blank}
 
-module _ {K : Type 0} (flag : List Row → ℕ → K) (join : K → K → K) (none : K) (laws : Laws flag join none)
+module _ {K : Type 0} {flag : List Row → ℕ → K} {join : K → K → K} {none : K} (laws : Laws flag join none)
     (p : Row → Bool) (skip : (row : Row) (rs : List Row) (n : ℕ) → p row ≡ false → flag (row ∷ rs) n ≡ flag rs (suc n)) where
   flag-quiet : (xs : List Row) (n : ℕ) → ((k : ℕ) → k < length xs → p (rowAt xs k) ≡ false) → flag xs n ≡ none
   flag-quiet [] n h = laws .empty n
@@ -43,7 +43,7 @@ module _ {K : Type 0} (flag : List Row → ℕ → K) (join : K → K → K) (no
   pub flag-found : (rs : List Row) (a b row : ℕ) → Some row ≡ first p rs a → row < b → flag (between a b rs) a ≡ flag (rowAt rs row ∷ between (row + 1) b rs) row
   flag-found rs a b row e lt =
       let found = least rs a (Some row) e in
-      flag-next rs flag join none laws a row b (found .0) (omega arith) (omega (arith, found .1))
+      flag-next laws rs a row b (found .0) (omega arith) (omega (arith, found .1))
       ∙ ap (λ x. join x (flag (between row b rs) row)) (flag-before rs a row row e (omega arith)) ∙ laws .left (flag (between row b rs) row)
       ∙ ap (λ xs. flag xs row) (between-first rs row b lt (found .1))
 

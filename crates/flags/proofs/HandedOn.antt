@@ -1,11 +1,13 @@
 -- The flag handed on from member to member. Assumes nothing.
-use Prim.Native.Nat.{ℕ, _+_, _-_, _<_, _≤_}
+use Prim.Native.Nat.{ℕ, zero, suc, _+_, _-_, _<_, _≤_}
 use mathlib.Core.List.{List, [], _∷_, _++_, map}
 use mathlib.Core.Path.{_≡_, refl, sym, ap, _∙_}
+use native.Mathlib.Numerals.{add-one}
 use native.Mathlib.Omega.{arith}
 use native.Mathlib.Nat.{sub-zero}
-use lib.ListN.{length, drop, set, take}
+use lib.ListN.{length, drop, getD, set, take}
 use Rattle.flags.proofs.Parts.{flag-next}
+use Rattle.flags.specs.Cuts.{Cut, Running, endOf, flagUpTo, ownFlag, runningFlag}
 use Rattle.flags.specs.Laws.{Lasting, Laws, between}
 use Rattle.flags.specs.declared.kinds.Part.{Part}
 use Rattle.std.proofs.shelf.Counted.{length-map-counting, map-counting-more}
@@ -16,7 +18,7 @@ use Rattle.table.specs.Row.{Row}
 abbrev pub partOf : {K : Type 0} → K → ℕ → Part K
 partOf x n = record { flag = x; until = n }
 
-module _ {K : Type 0} (flag : List Row → ℕ → K) (join : K → K → K) (none : K) (laws : Laws flag join none) (rs : List Row) where
+module _ {K : Type 0} {flag : List Row → ℕ → K} {join : K → K → K} {none : K} (laws : Laws flag join none) (rs : List Row) where
   pub handed-none : Lasting flag rs 0 0 (partOf none 0)
   handed-none = record {
     reached = omega arith;
@@ -37,13 +39,41 @@ module _ {K : Type 0} (flag : List Row → ℕ → K) (join : K → K → K) (no
     handed-on own new fits part e m = record {
       reached = omega (arith, part .reached);
       same = λ k above below.
-          flag-next rs flag join none laws 0 until k (omega arith) (omega arith) (omega arith)
+          flag-next laws rs 0 until k (omega arith) (omega arith) (omega arith)
           ∙ ap (λ v. join v (flag (between until k rs) until)) (known .same until (known .reached) (omega arith))
           ∙ ap (join x) (part .same k above (omega arith)) ∙ sym e;
     }
 
-  pub handed-all : (end until : ℕ) (x : K) → Lasting flag rs 0 end (partOf x until) → flag (take end rs) 0 ≡ x
-  handed-all end until x h = rw (sub-zero end) at (h .same end (omega arith) (h .reached))
+  up-to : (n : ℕ) → flag (take n rs) 0 ≡ flag (between 0 n rs) 0
+  up-to n = rw (sub-zero n)
+
+  -- what is handed on to the end of a member is the flag of all rows up to there
+  pub handed-told : (cut : List ℕ) (depth member end until : ℕ) (x : K) → end ≡ endOf cut depth member → depth ≡ length rs
+      → Lasting flag rs 0 end (partOf x until) → x ≡ flagUpTo flag rs cut member
+  handed-told cut depth member end until x e d h =
+      sym (h .same end (omega arith) (h .reached)) ∙ sym (up-to end) ∙ ap (λ n. flag (take n rs) 0) (e ∙ ap (λ n. endOf cut n member) d)
+
+  module _ (cut : List ℕ) (right : Cut cut (length rs)) where
+    start : ℕ → ℕ
+    start i = getD cut i (length rs)
+
+    from-start : (i : ℕ) → i < length cut → start i ≤ length rs
+        → flagUpTo flag rs cut i ≡ join (flag (between 0 (start i) rs) 0) (ownFlag flag rs cut i)
+    unfolding start
+    from-start i lt fits =
+        up-to (endOf cut (length rs) i)
+        ∙ flag-next laws rs 0 (getD cut i (length rs)) (endOf cut (length rs) i) (omega arith) (right .rising i lt) fits
+
+    pub running-told : Running flag join none rs cut
+    unfolding start
+    running-told zero lt =
+        from-start zero lt (omega (arith, right .first))
+        ∙ ap (λ n. join (flag (between 0 n rs) 0) (ownFlag flag rs cut zero)) (right .first)
+        ∙ ap (λ x. join x (ownFlag flag rs cut zero)) (laws .empty 0)
+    running-told (suc i) lt =
+        let here : start (suc i) ≡ endOf cut (length rs) i = ap start (sym (add-one i)) in
+        from-start (suc i) lt (rw here (right .within i (omega arith)))
+        ∙ ap (λ x. join x (ownFlag flag rs cut (suc i))) (sym (up-to (start (suc i))) ∙ ap (λ n. flag (take n rs) 0) here ∙ running-told i (omega arith))
 
 module _ {X : Type 0} (f : ℕ → X) (xs : List X) where
   -- the first n of a list are written

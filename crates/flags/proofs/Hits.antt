@@ -6,7 +6,7 @@ use mathlib.Core.Path.{_≡_, refl, ap, _∙_}
 use native.Mathlib.Numerals.{add-one}
 use native.Mathlib.Omega.{arith}
 use Rattle.flags.proofs.Found.{flag-before, flag-found, flag-none, found-passes}
-use Rattle.flags.specs.Kinds.{hitThen, hitsFrom, hitsJoined}
+use Rattle.flags.specs.Kinds.{hitThen, hitsFrom}
 use Rattle.flags.specs.Laws.{between}
 use Rattle.flags.specs.Proved.{hits-laws}
 use Rattle.flags.specs.declared.hit.HitFlag.{HitFlag}
@@ -30,15 +30,15 @@ two-hits a b (Several c) = refl
 
 module _ (rs : List Row) (a b : ℕ) where
   pub hits-none : None ≡ first isHit rs a → hitsFrom (between a b rs) a ≡ NoHit
-  hits-none e = flag-none hitsFrom hitsJoined NoHit hits-laws isHit hits-skip rs a b e
+  hits-none e = flag-none hits-laws isHit hits-skip rs a b e
 
   pub hits-before : (row : ℕ) → Some row ≡ first isHit rs a → b ≤ row → hitsFrom (between a b rs) a ≡ NoHit
-  hits-before row e end = flag-before hitsFrom hitsJoined NoHit hits-laws isHit hits-skip rs a b row e end
+  hits-before row e end = flag-before hits-laws isHit hits-skip rs a b row e end
 
   hits-first : (row : ℕ) → Some row ≡ first isHit rs a → row < b → hitsFrom (between a b rs) a ≡ hitThen row (hitsFrom (between (row + 1) b rs) (row + 1))
   hits-first row e lt =
-      flag-found hitsFrom hitsJoined NoHit hits-laws isHit hits-skip rs a b row e lt
-      ∙ hits-here (rowAt rs row) (between (row + 1) b rs) row (found-passes hitsFrom hitsJoined NoHit hits-laws isHit hits-skip rs a row e)
+      flag-found hits-laws isHit hits-skip rs a b row e lt
+      ∙ hits-here (rowAt rs row) (between (row + 1) b rs) row (found-passes hits-laws isHit hits-skip rs a row e)
 
 module _ (rs : List Row) (a b row : ℕ) (found : Some row ≡ first isHit rs a) (within : row < b) where
   pub hits-one : None ≡ first isHit rs (row + 1) → hitsFrom (between a b rs) a ≡ One row

@@ -5,6 +5,8 @@
 --   checkedCut   what the flags call answers: the length of its output is checked before the cut
 --   flagUpTo     the flag of all rows from 0 up to the end of member i
 --   flagsSoFar   that flag, for each member
+--   ownFlag      the flag of the rows of member i alone
+--   runningFlag  the running flag before it, at first nothing, joined with the member's own
 use Prim.Native.Nat.{ℕ, zero, suc, _+_, _-_, _≤_, _<_}
 use mathlib.Core.Bool.{Bool, _&&_, cond}
 use mathlib.Core.List.{List, map}
@@ -13,6 +15,7 @@ use lib.Dec.{eqb, leb}
 use lib.ListN.{length, getD, take}
 use Rattle.flags.specs.declared.faults.FlagsFault.{FlagsFault}
 use Rattle.flags.specs.declared.faults.FlagsFault.the-variants.{Length, Starts, Start}
+use Rattle.flags.specs.Laws.{between}
 use Rattle.std.specs.Iters.{counting}
 use Rattle.std.specs.declared.option.Option.{Option}
 use Rattle.std.specs.declared.option.Option.the-variants.{Some, None}
@@ -48,6 +51,17 @@ flagUpTo flag rs cut i = flag (take (endOf cut (length rs) i) rs) 0
 
 unfoldable pub flagsSoFar : {K : Type 0} → (List Row → ℕ → K) → List Row → List ℕ → List K
 flagsSoFar flag rs cut = map (flagUpTo flag rs cut) (counting 0 (length cut))
+
+abbrev pub ownFlag : {K : Type 0} → (List Row → ℕ → K) → List Row → List ℕ → ℕ → K
+ownFlag flag rs cut i = flag (between (getD cut i (length rs)) (endOf cut (length rs) i) rs) (getD cut i (length rs))
+
+abbrev pub runningFlag : {K : Type 0} → (List Row → ℕ → K) → (K → K → K) → K → List Row → List ℕ → ℕ → K
+runningFlag flag join none rs cut zero = join none (ownFlag flag rs cut zero)
+runningFlag flag join none rs cut (suc i) = join (runningFlag flag join none rs cut i) (ownFlag flag rs cut (suc i))
+
+-- the flag of all rows so far is the running flag
+abbrev pub Running : {K : Type 0} → (List Row → ℕ → K) → (K → K → K) → K → List Row → List ℕ → Type 0
+Running flag join none rs cut = (i : ℕ) → i < length cut → flagUpTo flag rs cut i ≡ runningFlag flag join none rs cut i
 
 -- a cut that passed the check: its members follow one another from row 0 to the depth
 pub record Cut (cut : List ℕ) (depth : ℕ) : Type 0 where

@@ -1,7 +1,8 @@
 // The flags call: for each member of a table, the flag of all rows up to the member's end.
 ghost use lib.ListN.{length};
 ghost use mathlib.Core.Path.{_≡_};
-ghost use Rattle.flags.specs.Cuts.{Cut, checkedCut, flagsSoFar};
+ghost use Rattle.flags.specs.Cuts.{Cut, Running, checkedCut, flagsSoFar};
+ghost use Rattle.std.specs.Vec.{made};
 ghost use Rattle.table.specs.Calls.{granted};
 use crate::cuts::check;
 use crate::cuts::end_of;
@@ -40,6 +41,7 @@ pub fn flags<T: Table, K: FlagKind + Copy>(
 ) -> Result<(), FlagsFault>
     ensures answer { λ r. ⌜ r ≡ checkedCut (length (now (out .entry))) (now (cut .entry)) (length (T·Table .rows (now (table .entry)))) ⌝ }
     ensures out { λ r. ⌜ now (out .exit) ≡ granted r (flagsSoFar (K·FlagKind .flagOf) (T·Table .rows (now (table .entry))) (now (cut .entry))) (now (out .entry)) ⌝ }
+    ensures running { λ r. ⌜ made r (λ _. Running (K·FlagKind .flagOf) (K·FlagKind .joined) (K·FlagKind .none) (T·Table .rows (now (table .entry))) (now (cut .entry))) ⌝ }
 {
     let depth = table.shape().depth;
     check(out.len(), cut, depth)?;

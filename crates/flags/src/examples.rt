@@ -7,12 +7,10 @@ pub fn examples_stand()
     ensures hits { λ _. ⌜ HitsOfFive ⌝ ∗ ⌜ HitsByTurns ⌝ }
     ensures full { λ _. ⌜ FullOfFive ⌝ ∗ ⌜ FullByTurns ⌝ }
     ensures cuts { λ _. ⌜ CutsChecked ⌝ }
-{
-}
+{}
 
 // Holds the theorems of what the flags of all rows say; it has nothing to do.
 pub fn readings_stand()
     ensures hits { λ _. ⌜ HitsRead ⌝ }
     ensures full { λ _. ⌜ FullRead ⌝ }
-{
-}
+{}

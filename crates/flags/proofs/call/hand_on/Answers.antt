@@ -1,11 +1,11 @@
 use Prim.Native.Nat.{_≤_}
 use mathlib.Core.List.{map}
-use mathlib.Core.Path.{_≡_, sym, ap, _∙_}
+use mathlib.Core.Path.{_≡_, ap, _∙_}
 use native.Mathlib.Omega.{arith}
-use lib.ListN.{getD, length, set, take}
+use lib.ListN.{getD, length, set}
 use Rattle.flags.specs.Cuts.{endOf, flagUpTo, flagsSoFar}
 use Rattle.flags.specs.Laws.{Lasting}
-use Rattle.flags.proofs.HandedOn.{handed-all, handed-none, handed-on, handed-over, partOf, written-all, written-more, written-none}
+use Rattle.flags.proofs.HandedOn.{handed-none, handed-on, handed-over, handed-told, partOf, written-all, written-more, written-none}
 use Rattle.std.specs.Iters.{counting}
 use Rattle.flags.proofs.call.hand_on.Needs as need
 use Rattle.flags.proofs.call.hand_on.Needs.{then-until-end, else-until-end}
@@ -14,7 +14,7 @@ pub loop-member-holds : need.loop-member-holds
 loop-member-holds g c =
     let k = g .K·FlagKind in
     let rs = g .T·Table .rows (c .args .table .now) in (
-      rw (c .nothing-flag .ensures .answer, c .pre .cut .first) (handed-none (k .flagOf) (k .joined) (k .none) (k .laws) rs),
+      rw (c .nothing-flag .ensures .answer, c .pre .cut .first) (handed-none (k .laws) rs),
       written-none (flagUpTo (k .flagOf) rs (c .args .cut .now)) (c .args .out .now),
     )
 
@@ -32,13 +32,11 @@ loop-member-again g c =
     let known = c .loop-member .inv .0 in
     let next : Lasting (k .flagOf) rs 0 end (partOf (c .if-until-end .flag) (c .if-until-end .until)) =
     elim (c .if-until-end .came) [
-      | then-until-end w ↦ handed-on (k .flagOf) (k .joined) (k .none) (k .laws) rs start end _ _ _ _ known (w .of-own .result)
+      | then-until-end w ↦ handed-on (k .laws) rs start end _ _ _ _ known (w .of-own .result)
           (w .if-until-end .taken) within (w .of-own .ensures .until) (w .flag-is ∙ w .join-flag .ensures .answer) (w .until-is)
-      | else-until-end w ↦ handed-over (k .flagOf) (k .joined) (k .none) (k .laws) rs start end _ _ _ _ known rising (w .if-until-end .left) (w .flag-is) (w .until-is)
+      | else-until-end w ↦ handed-over (k .laws) rs start end _ _ _ _ known rising (w .if-until-end .left) (w .flag-is) (w .until-is)
     ] in
-    let told : c .if-until-end .flag ≡ flagUpTo (k .flagOf) rs cut member =
-    sym (handed-all (k .flagOf) (k .joined) (k .none) (k .laws) rs end _ _ next)
-    ∙ ap (λ n. k .flagOf (take n rs) 0) (is-end ∙ ap (λ d. endOf cut d member) (c .pre .depth)) in (
+    let told = handed-told (k .laws) rs cut (c .args .depth) member end _ _ is-end (c .pre .depth) next in (
       rw (← is-end) next,
       ap (λ xs. set xs member (c .if-until-end .flag)) (c .loop-member .inv .1) ∙ written-more (flagUpTo (k .flagOf) rs cut) (c .args .out .now) member _ (omega arith) told,
     )
