@@ -1,5 +1,6 @@
+pub mod Complete
 pub mod Counts
+pub mod Depth
 pub mod Effects
 pub mod Groups
-pub mod Complete
 pub mod Turns
