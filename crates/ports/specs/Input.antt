@@ -19,7 +19,7 @@ use Rattle.ports.specs.declared.faults.PortFault.{PortFault}
 use Rattle.ports.specs.declared.faults.PortFault.the-variants.{NotStarted as NothingStarted, TooWide, BlocksGone}
 use Rattle.ports.specs.declared.input.BlockAnswer.{BlockAnswer}
 use Rattle.ports.specs.declared.input.BlockAnswer.the-variants.{Ignored, Taken, Searched}
-use Rattle.processor.specs.Commands.{handing}
+use Rattle.processor.specs.Commands.{command}
 use Rattle.processor.specs.Walks.{foundIn, withFound}
 use Rattle.registers.specs.Setting.{channelOf}
 use Rattle.registers.specs.Start.{inputStepOf, withInput}
@@ -64,7 +64,7 @@ searchedInput step place b key hit i =
     record { channel = i .channel; keys = set (i .keys) (place .step) key; hits = set (i .hits) (place .step) hit; buffers = b; sequence = following step place }
 
 abbrev pub stepAnswer : ℕ → Registers → InputPlace → Result BlockAnswer PortFault
-stepAnswer w g place = atStep (place .step) (handing Searched (onSegment w (stepAt g place .segment) tt))
+stepAnswer w g place = atStep (place .step) (command (onSegment w (stepAt g place .segment) Searched))
 
 -- the registers after the step's search left these rows
 abbrev pub stepLeft : List Row → Registers → InputPlace → Buffers → Registers

@@ -1,6 +1,5 @@
 -- What the processor's calls on rows answer and leave, from the table's width and rows. Assumes nothing.
 --   command       a table's answer as the processor's; a refusal is handed on whole
---   handing       what the processor hands out once the table has granted a call
 --   atAddress     the answer of a command at an address: without one it refuses
 --   changeAt      the rows after a change at an address
 --   becameValid   a row after an append
@@ -19,10 +18,6 @@ use Rattle.table.specs.declared.faults.TableFault.{TableFault}
 abbrev pub command : {X : Type 0} → Result X TableFault → Result X CommandFault
 command (Ok x) = Ok x
 command (Err fault) = Err (InTable fault)
-
-abbrev pub handing : {X : Type 0} → X → Result (Unit {0}) TableFault → Result X CommandFault
-handing x (Ok done) = Ok x
-handing x (Err fault) = Err (InTable fault)
 
 abbrev pub atAddress : {X : Type 0} → CommandFault → (ℕ → Result X TableFault) → Option ℕ → Result X CommandFault
 atAddress missing f None = Err missing

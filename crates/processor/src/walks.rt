@@ -1,7 +1,7 @@
 // Searches, and the walks over hits and over empty rows. No other call but reset changes an address.
 ghost use mathlib.Core.List.{map};
 ghost use mathlib.Core.Path.{_≡_};
-ghost use Rattle.processor.specs.Commands.{handing};
+ghost use Rattle.processor.specs.Commands.{command};
 ghost use Rattle.processor.specs.Walks.{after, foundIn, movedTo, withEmpty, withFound};
 ghost use Rattle.table.specs.Calls.{first, granted, onSegment};
 ghost use Rattle.table.specs.Row.{isEmpty, isHit, searched};
@@ -15,7 +15,7 @@ use table::Table;
 impl<T: Table> Processor<T> {
     // Compares every row. The hit address is then the first hit, and the answer.
     pub fn search(&mut self, query: Search) -> Result<Option<u32>, CommandFault>
-        ensures answer { λ r. ⌜ r ≡ handing (first isHit (map (searched query) (rows (now (self .entry) .table))) 0) (onSegment (width (now (self .entry) .table)) (query .segment) tt) ⌝ }
+        ensures answer { λ r. ⌜ r ≡ command (onSegment (width (now (self .entry) .table)) (query .segment) (first isHit (map (searched query) (rows (now (self .entry) .table))) 0)) ⌝ }
         ensures registers { λ r. ⌜ now (self .exit) .registers ≡ granted r (withFound (foundIn (map (searched query) (rows (now (self .entry) .table)))) (now (self .entry) .registers)) (now (self .entry) .registers) ⌝ }
         ensures rows { λ r. ⌜ rows (now (self .exit) .table) ≡ granted r (map (searched query) (rows (now (self .entry) .table))) (rows (now (self .entry) .table)) ⌝ }
         ensures width { λ _. ⌜ width (now (self .exit) .table) ≡ width (now (self .entry) .table) ⌝ }
