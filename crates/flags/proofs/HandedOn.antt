@@ -34,14 +34,14 @@ module _ {K : Type 0} {flag : List Row → ℕ → K} {join : K → K → K} {no
     }
 
     -- a member whose rows from `until` on were asked about
-    pub handed-on : (own : Part K) → until < end → end ≤ length rs → Lasting flag rs until end own → z ≡ join x (own .flag) → more ≡ own .until
+    pub handed-on : (next : Part K) → until < end → end ≤ length rs → Lasting (λ xs n. join x (flag xs n)) rs until end next → z ≡ next .flag → more ≡ next .until
         → Lasting flag rs 0 end (partOf z more)
-    handed-on own new fits part e m = record {
+    handed-on next new fits part e m = record {
       reached = omega (arith, part .reached);
       same = λ k above below.
           flag-next laws rs 0 until k (omega arith) (omega arith) (omega arith)
           ∙ ap (λ v. join v (flag (between until k rs) until)) (known .same until (known .reached) (omega arith))
-          ∙ ap (join x) (part .same k above (omega arith)) ∙ sym e;
+          ∙ part .same k above (omega arith) ∙ sym e;
     }
 
   up-to : (n : ℕ) → flag (take n rs) 0 ≡ flag (between 0 n rs) 0
@@ -84,15 +84,16 @@ module _ {X : Type 0} (f : ℕ → X) (xs : List X) where
   unfolding written
   written-none = refl
 
-  pub written-more : (n : ℕ) (x : X) → n < length xs → x ≡ f n → set (written n) n x ≡ written (n + 1)
+  pub written-more : (ys : List X) (n : ℕ) (x : X) → ys ≡ written n → n < length xs → x ≡ f n → set ys n x ≡ written (n + 1)
   unfolding written
-  written-more n x lt e =
-      ap (λ ys. set (map f (counting 0 n) ++ ys) n x) (drop-more xs n x lt)
+  written-more ys n x h lt e =
+      ap (λ zs. set zs n x) (h ∙ ap (λ zs. map f (counting 0 n) ++ zs) (drop-more xs n x lt))
       ∙ set-at (map f (counting 0 n)) _ (drop (n + 1) xs) x n (length-map-counting f 0 n)
       ∙ ap (λ y. map f (counting 0 n) ++ y ∷ drop (n + 1) xs) e
       ∙ sym (append-assoc (map f (counting 0 n)) (f n ∷ []) (drop (n + 1) xs))
-      ∙ ap (λ ys. ys ++ drop (n + 1) xs) (sym (map-counting-more f 0 n n (omega arith)))
+      ∙ ap (λ zs. zs ++ drop (n + 1) xs) (sym (map-counting-more f 0 n n (omega arith)))
 
-  pub written-all : (n : ℕ) → length xs ≤ n → written n ≡ map f (counting 0 n)
+  pub written-all : (ys : List X) (n m : ℕ) → ys ≡ written n → length xs ≤ n → n ≡ m → ys ≡ map f (counting 0 m)
   unfolding written
-  written-all n le = ap (λ ys. map f (counting 0 n) ++ ys) (drop-all n xs le) ∙ append-nil (map f (counting 0 n))
+  written-all ys n m h le e =
+      h ∙ ap (λ zs. map f (counting 0 n) ++ zs) (drop-all n xs le) ∙ append-nil (map f (counting 0 n)) ∙ ap (λ i. map f (counting 0 i)) e

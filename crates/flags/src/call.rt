@@ -2,6 +2,7 @@
 ghost use lib.ListN.{length};
 ghost use mathlib.Core.Path.{_≡_};
 ghost use Rattle.flags.specs.Cuts.{Cut, Running, checkedCut, flagsSoFar};
+ghost use Rattle.flags.specs.Laws.{Lasting};
 ghost use Rattle.std.specs.Vec.{made};
 ghost use Rattle.table.specs.Calls.{granted};
 use crate::cuts::check;
@@ -10,6 +11,17 @@ use crate::faults::FlagsFault;
 use crate::kinds::FlagKind;
 use crate::kinds::Part;
 use table::Table;
+
+// A flag joined with that of the rows from `from` up to `to`.
+fn joined_on<T: Table, K: FlagKind + Copy>(table: &T, flag: K, from: u32, to: u32) -> Part<K>
+    ensures answer { λ r. ⌜ Lasting (λ rs n. K·FlagKind .joined flag (K·FlagKind .flagOf rs n)) (T·Table .rows (now (table .entry))) from to r ⌝ }
+{
+    let own = K::of(table, from, to);
+    Part {
+        flag: flag.join(own.flag),
+        until: own.until,
+    }
+}
 
 // Hands the flag on from member to member: the one so far, at first nothing, joined with that of
 // the rows of the member that no question has covered yet.
@@ -24,9 +36,9 @@ fn hand_on<T: Table, K: FlagKind + Copy>(table: &T, cut: &[u32], depth: u32, out
     for member in 0..cut.len() {
         let end = end_of(cut, depth, member);
         if until < end {
-            let own = K::of(table, until, end);
-            flag = flag.join(own.flag);
-            until = own.until;
+            let next = joined_on(table, flag, until, end);
+            flag = next.flag;
+            until = next.until;
         }
         out[member] = flag;
     }

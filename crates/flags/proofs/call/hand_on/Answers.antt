@@ -1,12 +1,10 @@
 use Prim.Native.Nat.{_≤_}
-use mathlib.Core.List.{map}
-use mathlib.Core.Path.{_≡_, ap, _∙_}
+use mathlib.Core.Path.{_≡_}
 use native.Mathlib.Omega.{arith}
-use lib.ListN.{getD, length, set}
+use lib.ListN.{getD, length}
 use Rattle.flags.specs.Cuts.{endOf, flagUpTo, flagsSoFar}
 use Rattle.flags.specs.Laws.{Lasting}
 use Rattle.flags.proofs.HandedOn.{handed-none, handed-on, handed-over, handed-told, partOf, written-all, written-more, written-none}
-use Rattle.std.specs.Iters.{counting}
 use Rattle.flags.proofs.call.hand_on.Needs as need
 use Rattle.flags.proofs.call.hand_on.Needs.{then-until-end, else-until-end}
 
@@ -32,18 +30,17 @@ loop-member-again g c =
     let known = c .loop-member .inv .0 in
     let next : Lasting (k .flagOf) rs 0 end (partOf (c .if-until-end .flag) (c .if-until-end .until)) =
     elim (c .if-until-end .came) [
-      | then-until-end w ↦ handed-on (k .laws) rs start end _ _ _ _ known (w .of-own .result)
-          (w .if-until-end .taken) within (w .of-own .ensures .until) (w .flag-is ∙ w .join-flag .ensures .answer) (w .until-is)
+      | then-until-end w ↦ handed-on (k .laws) rs start end _ _ _ _ known (w .joined-on-next .result) (w .if-until-end .taken) within
+          (w .joined-on-next .ensures .answer) (w .flag-is) (w .until-is)
       | else-until-end w ↦ handed-over (k .laws) rs start end _ _ _ _ known rising (w .if-until-end .left) (w .flag-is) (w .until-is)
     ] in
     let told = handed-told (k .laws) rs cut (c .args .depth) member end _ _ is-end (c .pre .depth) next in (
       rw (← is-end) next,
-      ap (λ xs. set xs member (c .if-until-end .flag)) (c .loop-member .inv .1) ∙ written-more (flagUpTo (k .flagOf) rs cut) (c .args .out .now) member _ (omega arith) told,
+      written-more (flagUpTo (k .flagOf) rs cut) (c .args .out .now) _ member _ (c .loop-member .inv .1) (omega arith) told,
     )
 
 pub returns : need.returns
 unfolding flagsSoFar
 returns g c =
     let f = flagUpTo (g .K·FlagKind .flagOf) (g .T·Table .rows (c .args .table .now)) (c .args .cut .now) in
-    let all : c .loop-member .member ≡ length (c .args .cut .now) = omega arith in
-    record { out = c .loop-member .inv .1 ∙ written-all f (c .args .out .now) (c .loop-member .member) (omega arith) ∙ ap (λ n. map f (counting 0 n)) all }
+    record { out = written-all f (c .args .out .now) _ (c .loop-member .member) _ (c .loop-member .inv .1) (omega arith) (omega arith) }
