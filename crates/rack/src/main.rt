@@ -1,22 +1,59 @@
-// The program: a shore rack's table works a telegram, and each call and its answer is printed.
-mod calls;
+// The program: a shore rack works a telegram, and each call and its answer is printed.
 mod record;
-mod telegram;
+mod task;
 
 use device::Device;
 use device::DeviceTable;
-use record::AnswerDisplay;
-use record::CallDisplay;
+use fence::Fence;
+use fence::FenceTable;
+use flags::FullFlag;
+use flags::FullKind;
+use flags::HitFlag;
+use flags::HitKind;
+use flags::flags;
+use join::JoinTable;
+use life::Answer;
+use planes::Planes;
+use planes::PlanesTable;
+use record::AnswerText;
+use record::AnswerTextDisplay;
+use record::CallText;
+use record::CallTextDisplay;
+use record::FullText;
+use record::FullTextDisplay;
+use record::HitText;
+use record::HitTextDisplay;
 use std::error::AnyError;
-use telegram::TELEGRAM;
+use task::CALLS;
+use task::CUT;
+use trial::run_trial;
+
+fn print_answers(rt: &LibcRuntime, answers: &[Answer]) -> Result<(), AnyError> {
+    for (call, answer) in CALLS.iter().zip(answers.iter()) {
+        let call = CallText(*call);
+        let answer = AnswerText(*answer);
+        println!(rt, "{call} -> {answer}")?;
+    }
+    Ok(())
+}
 
 fn run(rt: &LibcRuntime) -> Result<(), AnyError> {
     let mut words = vec![in rt.alloc(); 0u32; 8192]?;
     let mut marks = vec![in rt.alloc(); 0u8; 8192]?;
-    let mut rack = Device::open(telegram::WIDTH, &mut words, &mut marks);
-    for call in &TELEGRAM {
-        let answer = calls::perform(&mut rack, *call);
-        println!(rt, "{call} -> {answer}")?;
+    let upper = Device::open(task::WIDTH, &mut words, &mut marks);
+    let lower = Fence::new(task::LOWER_HIDDEN, Planes::new());
+    let mut hits = [HitFlag::None; 2];
+    let tried = run_trial(rt.alloc(), upper, lower, task::HIDDEN, &CALLS, &CUT, &mut hits);
+    match &tried.answers {
+        Ok(answers) => print_answers(rt, answers)?,
+        Err(_) => return Err("no memory for the answers".into()),
+    }
+    let mut full = [FullFlag::Full; 2];
+    let _ = flags(&tried.processor.table, &CUT, &mut full);
+    for member in 0..2usize {
+        let hit = HitText(hits[member]);
+        let empty = FullText(full[member]);
+        println!(rt, "member {member}: {hit}, {empty}")?;
     }
     Ok(())
 }
