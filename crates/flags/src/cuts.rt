@@ -6,6 +6,7 @@ ghost use Rattle.flags.specs.Cuts.{Cut, checkedCut, endOf, firstBreak, obeys, 
 ghost use Rattle.std.specs.Vec.{made};
 use crate::faults::FlagsFault;
 
+// How many members a cut may have.
 pub const MEMBERS: usize = 32;
 
 // Where a member ends: before the next start, or at the depth.

@@ -19,6 +19,7 @@ pub trait FlagKind: Sized {
 
     ghost joined: { Self → Self → Self };
 
+    // The flag of no rows.
     ghost none: { Self };
 
     // What each kind proves.

@@ -8,6 +8,7 @@ mod hit;
 mod kinds;
 
 pub use call::flags;
+pub use cuts::MEMBERS;
 pub use examples::examples_stand;
 pub use examples::readings_stand;
 pub use faults::FlagsFault;
