@@ -43,7 +43,15 @@ fn run(rt: &LibcRuntime) -> Result<(), AnyError> {
     let upper = Device::open(task::WIDTH, &mut words, &mut marks);
     let lower = Fence::new(task::LOWER_HIDDEN, Planes::new());
     let mut hits = [HitFlag::None; 2];
-    let tried = run_trial(rt.alloc(), upper, lower, task::HIDDEN, &CALLS, &CUT, &mut hits);
+    let tried = run_trial(
+        rt.alloc(),
+        upper,
+        lower,
+        task::HIDDEN,
+        &CALLS,
+        &CUT,
+        &mut hits,
+    );
     match &tried.answers {
         Ok(answers) => print_answers(rt, answers)?,
         Err(_) => return Err("no memory for the answers".into()),

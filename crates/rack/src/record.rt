@@ -97,7 +97,10 @@ fn set_up_call<W: fmt::Write>(f: &mut fmt::Formatter<W>, call: SetUpCall) -> fmt
             let head = flag_name(to.head, " head");
             let access = flag_name(to.access, " access");
             let end = flag_name(to.end, " end");
-            write!(f, "set input {channel} {step} {mask:#010x} {shift} {segment}{head}{access}{end}")
+            write!(
+                f,
+                "set input {channel} {step} {mask:#010x} {shift} {segment}{head}{access}{end}"
+            )
         }
         SetUpCall::OutputStep { channel, step, to } => {
             write!(f, "set output {channel} {step} ")?;
@@ -105,9 +108,11 @@ fn set_up_call<W: fmt::Write>(f: &mut fmt::Formatter<W>, call: SetUpCall) -> fmt
             let end = flag_name(to.end, " end");
             write!(f, "{end}")
         }
-        SetUpCall::Blocks { channel, take, start } => {
-            write!(f, "set blocks {channel} {take:#018x} {start:#018x}")
-        }
+        SetUpCall::Blocks {
+            channel,
+            take,
+            start,
+        } => { write!(f, "set blocks {channel} {take:#018x} {start:#018x}") }
         SetUpCall::BlockWidth { bits } => write!(f, "set width {bits}"),
     }
 }

@@ -55,5 +55,9 @@ pub fn run_trial<U: Table, L: Table, K: FlagKind + Copy>(
     let mut processor = Processor::new(pile);
     let answers = work(heap, &mut processor, calls);
     let flags = flags(&processor.table, cut, out);
-    Trial { processor, answers, flags }
+    Trial {
+        processor,
+        answers,
+        flags,
+    }
 }
