@@ -24,6 +24,7 @@ use record::FullTextDisplay;
 use record::HitText;
 use record::HitTextDisplay;
 use std::error::AnyError;
+use table::Table;
 use task::CALLS;
 use task::CUT;
 use trial::run_trial;
@@ -37,11 +38,21 @@ fn print_answers(rt: &LibcRuntime, answers: &[Answer]) -> Result<(), AnyError> {
     Ok(())
 }
 
-fn run(rt: &LibcRuntime) -> Result<(), AnyError> {
-    let mut words = vec![in rt.alloc(); 0u32; 8192]?;
-    let mut marks = vec![in rt.alloc(); 0u8; 8192]?;
-    let upper = Device::open(task::WIDTH, &mut words, &mut marks);
-    let lower = Fence::new(task::LOWER_HIDDEN, Planes::new());
+fn print_flags(rt: &LibcRuntime, hits: [HitFlag; 2], full: [FullFlag; 2]) -> Result<(), AnyError> {
+    for member in 0..2usize {
+        let hit = HitText(hits[member]);
+        let empty = FullText(full[member]);
+        println!(rt, "member {member}: {hit}, {empty}")?;
+    }
+    Ok(())
+}
+
+// Works the task on a rack of two members and prints the record.
+fn record_trial<U: Table + Drop, L: Table + Drop>(
+    rt: &LibcRuntime,
+    upper: U,
+    lower: L,
+) -> Result<(), AnyError> {
     let mut hits = [HitFlag::None; 2];
     let tried = run_trial(
         rt.alloc(),
@@ -58,12 +69,15 @@ fn run(rt: &LibcRuntime) -> Result<(), AnyError> {
     }
     let mut full = [FullFlag::Full; 2];
     let _ = flags(&tried.processor.table, &CUT, &mut full);
-    for member in 0..2usize {
-        let hit = HitText(hits[member]);
-        let empty = FullText(full[member]);
-        println!(rt, "member {member}: {hit}, {empty}")?;
-    }
-    Ok(())
+    print_flags(rt, hits, full)
+}
+
+fn run(rt: &LibcRuntime) -> Result<(), AnyError> {
+    let mut words = vec![in rt.alloc(); 0u32; 8192]?;
+    let mut marks = vec![in rt.alloc(); 0u8; 8192]?;
+    let upper = Device::open(task::WIDTH, &mut words, &mut marks);
+    let lower = Fence::new(task::LOWER_HIDDEN, Planes::new());
+    record_trial(rt, upper, lower)
 }
 
 fn main(rt: LibcRuntime) -> Result<(), AnyError> {
