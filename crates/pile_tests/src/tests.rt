@@ -37,7 +37,10 @@ fn two<T: Table + Drop>(mut table: T) -> Result<T, TableFault> {
 }
 
 // The last rows of each of two tables, filled and joined.
-fn joined<A: Table + Drop, B: Table + Drop>(upper: A, lower: B) -> Result<Join<Fence<A>, Fence<B>>, TableFault> {
+fn joined<A: Table + Drop, B: Table + Drop>(
+    upper: A,
+    lower: B,
+) -> Result<Join<Fence<A>, Fence<B>>, TableFault> {
     let above = upper.shape().depth.saturating_sub(3);
     let below = lower.shape().depth.saturating_sub(2);
     let upper = three(Fence::new(above, upper))?;
