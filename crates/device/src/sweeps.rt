@@ -67,7 +67,7 @@ fn compared(query: Search, word: u32, byte: u8) -> u8
     (byte & (EMPTY | ACCESS)) | flag(hits, HIT) | flag(query.access & hits, ACCESS)
 }
 
-pub(crate) fn compare(words: &[u32], marks: &mut [u8], width: usize, depth: usize, query: Search)
+fn compare_rows(words: &[u32], marks: &mut [u8], width: usize, depth: usize, query: Search)
     requires worded { ⌜ depth * width ≤ length (now words) ⌝ }
     requires marked { ⌜ depth ≤ length (now marks) ⌝ }
     requires within { ⌜ query .segment < width ⌝ }
@@ -77,5 +77,21 @@ pub(crate) fn compare(words: &[u32], marks: &mut [u8], width: usize, depth: usiz
     for row in 0..depth {
         let word = words[row * width + query.segment as usize];
         marks[row] = compared(query, word, marks[row]);
+    }
+}
+
+// The call at width 1 stands apart: there the words lie side by side, and the compiler loads
+// several at once.
+pub(crate) fn compare(words: &[u32], marks: &mut [u8], width: usize, depth: usize, query: Search)
+    requires worded { ⌜ depth * width ≤ length (now words) ⌝ }
+    requires marked { ⌜ depth ≤ length (now marks) ⌝ }
+    requires within { ⌜ query .segment < width ⌝ }
+    requires tidy { ⌜ ((r : ℕ) → r < depth → proper (getD (now marks) r 0) ≡ true) ⌝ }
+    ensures memory { λ _. ⌜ now (marks .exit) ≡ remarked (λ r. marksSearched query (getD (now (words .entry)) (r * width + query .segment) 0)) depth (now (marks .entry)) ⌝ }
+{
+    if width == 1 {
+        compare_rows(words, marks, 1, depth, query);
+    } else {
+        compare_rows(words, marks, width, depth, query);
     }
 }
