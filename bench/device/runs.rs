@@ -35,23 +35,33 @@ struct Search {
     access: bool,
 }
 
-// The byte of a row after a search, without a branch.
-fn compared(q: Search, word: u32, byte: u8) -> u8 {
-    let agrees = (word ^ q.key) & !q.mask == 0;
-    let hits = agrees & (byte & EMPTY == 0) & (q.head | (byte & HIT != 0));
-    byte & (EMPTY | ACCESS) | hits as u8 * HIT | (hits & q.access) as u8 * ACCESS
+// What a search makes of each row's byte, without a branch: what the query alone decides is worked
+// out once.
+fn comparer(q: Search) -> impl Fn(u32, u8) -> u8 {
+    let key = q.key | q.mask;
+    let head = if q.head { HIT } else { 0 };
+    let set = if q.access { HIT | ACCESS } else { HIT };
+    move |word, byte| {
+        let hits = (word | q.mask == key) & ((byte | head) & (EMPTY | HIT) == HIT);
+        byte & (EMPTY | ACCESS) | if hits { set } else { 0 }
+    }
 }
 
-// A loop of its own at width 1, where words and bytes lie side by side.
+// The width is known to the compiler, as it would be in a table made for one width.
+fn search_at<const WIDTH: usize>(words: &[u32], marks: &mut [u8], q: Search) {
+    let compared = comparer(q);
+    let segment = q.segment;
+    assert!(segment < WIDTH);
+    for (byte, row) in marks.iter_mut().zip(words.as_chunks::<WIDTH>().0) {
+        *byte = compared(row[segment], *byte);
+    }
+}
+
 fn search(words: &[u32], marks: &mut [u8], width: usize, q: Search) {
-    if width == 1 {
-        for (byte, word) in marks.iter_mut().zip(words) {
-            *byte = compared(q, *word, *byte);
-        }
-    } else {
-        for (byte, row) in marks.iter_mut().zip(words.chunks_exact(width)) {
-            *byte = compared(q, row[q.segment], *byte);
-        }
+    match width {
+        1 => search_at::<1>(words, marks, q),
+        2 => search_at::<2>(words, marks, q),
+        _ => search_at::<8>(words, marks, q),
     }
 }
 

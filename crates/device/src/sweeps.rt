@@ -54,17 +54,16 @@ pub(crate) fn pass_over(marks: &mut [u8], depth: usize, how: Sweep)
     }
 }
 
-// A row's byte after a search. Its two upper bits are kept rather than made anew, and nothing
-// branches, so that a pass over the rows can be vectorized.
+// A row's byte after a search. Its two upper bits are kept rather than made anew, nothing branches,
+// and what the query alone decides is one number for all rows, so that a pass over the rows can be
+// vectorized well.
 fn compared(query: Search, word: u32, byte: u8) -> u8
     requires { ⌜ proper byte ≡ true ⌝ }
     ensures answer { λ r. ⌜ r ≡ byteOf (marksSearched query word (marksOf byte)) ⌝ }
 {
-    let empty = byte & EMPTY != 0;
-    let hit = byte & HIT != 0;
     let agrees = (query.key | query.mask) == (word | query.mask);
-    let hits = !empty & (agrees & (query.head | hit));
-    (byte & (EMPTY | ACCESS)) | flag(hits, HIT) | flag(query.access & hits, ACCESS)
+    let open = ((byte | flag(query.head, HIT)) & (EMPTY | HIT)) == HIT;
+    (byte & (EMPTY | ACCESS)) | flag(agrees & open, HIT | flag(query.access, ACCESS))
 }
 
 fn compare_rows(words: &[u32], marks: &mut [u8], width: usize, depth: usize, query: Search)
