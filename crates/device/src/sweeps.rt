@@ -79,8 +79,8 @@ fn compare_rows(words: &[u32], marks: &mut [u8], width: usize, depth: usize, que
     }
 }
 
-// The call at width 1 stands apart: there the words lie side by side, and the compiler loads
-// several at once.
+// The commonest widths have calls of their own, in which the compiler knows how far apart the words
+// of one segment lie and loads several at once.
 pub(crate) fn compare(words: &[u32], marks: &mut [u8], width: usize, depth: usize, query: Search)
     requires worded { ⌜ depth * width ≤ length (now words) ⌝ }
     requires marked { ⌜ depth ≤ length (now marks) ⌝ }
@@ -88,9 +88,11 @@ pub(crate) fn compare(words: &[u32], marks: &mut [u8], width: usize, depth: usiz
     requires tidy { ⌜ ((r : ℕ) → r < depth → proper (getD (now marks) r 0) ≡ true) ⌝ }
     ensures memory { λ _. ⌜ now (marks .exit) ≡ remarked (λ r. marksSearched query (getD (now (words .entry)) (r * width + query .segment) 0)) depth (now (marks .entry)) ⌝ }
 {
-    if width == 1 {
-        compare_rows(words, marks, 1, depth, query);
-    } else {
-        compare_rows(words, marks, width, depth, query);
+    match width {
+        1 => compare_rows(words, marks, 1, depth, query),
+        2 => compare_rows(words, marks, 2, depth, query),
+        4 => compare_rows(words, marks, 4, depth, query),
+        8 => compare_rows(words, marks, 8, depth, query),
+        _ => compare_rows(words, marks, width, depth, query),
     }
 }
