@@ -54,20 +54,19 @@ pub(crate) fn pass_over(marks: &mut [u8], depth: usize, how: Sweep)
     }
 }
 
-// A row's byte after a search. Its two upper bits are kept rather than made anew, and nothing
-// branches, so that a pass over the rows can be vectorized.
+// A row's byte after a search. Its two upper bits are kept rather than made anew, nothing branches,
+// and what the query alone decides is one number for all rows, so that a pass over the rows can be
+// vectorized well.
 fn compared(query: Search, word: u32, byte: u8) -> u8
     requires { ⌜ proper byte ≡ true ⌝ }
     ensures answer { λ r. ⌜ r ≡ byteOf (marksSearched query word (marksOf byte)) ⌝ }
 {
-    let empty = byte & EMPTY != 0;
-    let hit = byte & HIT != 0;
     let agrees = (query.key | query.mask) == (word | query.mask);
-    let hits = !empty & (agrees & (query.head | hit));
-    (byte & (EMPTY | ACCESS)) | flag(hits, HIT) | flag(query.access & hits, ACCESS)
+    let open = ((byte | flag(query.head, HIT)) & (EMPTY | HIT)) == HIT;
+    (byte & (EMPTY | ACCESS)) | flag(agrees & open, HIT | flag(query.access, ACCESS))
 }
 
-pub(crate) fn compare(words: &[u32], marks: &mut [u8], width: usize, depth: usize, query: Search)
+fn compare_rows(words: &[u32], marks: &mut [u8], width: usize, depth: usize, query: Search)
     requires worded { ⌜ depth * width ≤ length (now words) ⌝ }
     requires marked { ⌜ depth ≤ length (now marks) ⌝ }
     requires within { ⌜ query .segment < width ⌝ }
@@ -77,5 +76,23 @@ pub(crate) fn compare(words: &[u32], marks: &mut [u8], width: usize, depth: usiz
     for row in 0..depth {
         let word = words[row * width + query.segment as usize];
         marks[row] = compared(query, word, marks[row]);
+    }
+}
+
+// The commonest widths have calls of their own, in which the compiler knows how far apart the words
+// of one segment lie and loads several at once.
+pub(crate) fn compare(words: &[u32], marks: &mut [u8], width: usize, depth: usize, query: Search)
+    requires worded { ⌜ depth * width ≤ length (now words) ⌝ }
+    requires marked { ⌜ depth ≤ length (now marks) ⌝ }
+    requires within { ⌜ query .segment < width ⌝ }
+    requires tidy { ⌜ ((r : ℕ) → r < depth → proper (getD (now marks) r 0) ≡ true) ⌝ }
+    ensures memory { λ _. ⌜ now (marks .exit) ≡ remarked (λ r. marksSearched query (getD (now (words .entry)) (r * width + query .segment) 0)) depth (now (marks .entry)) ⌝ }
+{
+    match width {
+        1 => compare_rows(words, marks, 1, depth, query),
+        2 => compare_rows(words, marks, 2, depth, query),
+        4 => compare_rows(words, marks, 4, depth, query),
+        8 => compare_rows(words, marks, 8, depth, query),
+        _ => compare_rows(words, marks, width, depth, query),
     }
 }

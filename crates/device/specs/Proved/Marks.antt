@@ -50,20 +50,30 @@ unfolding every
 every-at p h true = and-parts (p true) (p false) h .0
 every-at p h false = and-parts (p true) (p false) h .1
 
--- a byte of these marks, with the hit bit put anew and the access bit perhaps added
-abbrev kept : Bool → Bool → Bool → Bool → Bool → Bool
-kept e a h hit more = eqb
-    (bitOr (bitOr (bitAnd (byteOf record { empty = e; access = a; hit = h }) 192) (cond hit 32 0)) (cond more 64 0))
-    (byteOf record { empty = e; access = a || more; hit = hit })
+-- the byte that a search makes of a byte b, where the row agrees or not
+abbrev pub byteSearched : ℕ → Bool → Bool → Bool → ℕ
+byteSearched b head agrees access =
+    bitOr (bitAnd b 192) (cond (agrees && eqb (bitAnd (bitOr b (cond head 32 0)) 160) 32) (bitOr 32 (cond access 64 0)) 0)
 
-kept-all : (e a h hit more : Bool) → kept e a h hit more ≡ true
+abbrev pub marksThen : Marks → Bool → Bool → Bool → Marks
+marksThen m head agrees access = record {
+  empty = m .empty;
+  access = m .access || (access && (not (m .empty) && (agrees && (head || m .hit))));
+  hit = not (m .empty) && (agrees && (head || m .hit));
+}
+
+abbrev kept : Bool → Bool → Bool → Bool → Bool → Bool → Bool
+kept e a h head agrees access =
+    eqb (byteSearched (byteOf record { empty = e; access = a; hit = h }) head agrees access) (byteOf (marksThen record { empty = e; access = a; hit = h } head agrees access))
+
+kept-all : (e a h head agrees access : Bool) → kept e a h head agrees access ≡ true
 unfolding every
-kept-all e a h hit more =
-    every-at (λ x. kept e a h hit x) (every-at (λ y. every (λ x. kept e a h y x)) (every-at (λ z. every (λ y. every (λ x. kept e a z y x)))
-    (every-at (λ u. every (λ z. every (λ y. every (λ x. kept e u z y x)))) (every-at (λ v. every (λ u. every (λ z. every (λ y. every (λ x. kept v u z y x))))) refl e) a) h) hit) more
+kept-all e a h head agrees access =
+    every-at (λ x. kept e a h head agrees x) (every-at (λ y. every (λ x. kept e a h head y x)) (every-at (λ z. every (λ y. every (λ x. kept e a h z y x)))
+    (every-at (λ u. every (λ z. every (λ y. every (λ x. kept e a u z y x)))) (every-at (λ v. every (λ u. every (λ z. every (λ y. every (λ x. kept e v u z y x)))))
+    (every-at (λ w. every (λ v. every (λ u. every (λ z. every (λ y. every (λ x. kept w v u z y x)))))) refl e) a) h) head) agrees) access
 
-pub byte-searched : (b : ℕ) (hit more : Bool) → proper b ≡ true
-    → bitOr (bitOr (bitAnd b 192) (cond hit 32 0)) (cond more 64 0) ≡ byteOf record { empty = marksOf b .empty; access = marksOf b .access || more; hit = hit }
-byte-searched b hit more h =
-    ap (λ x. bitOr (bitOr (bitAnd x 192) (cond hit 32 0)) (cond more 64 0)) (sym (byteOf-marksOf b h))
-    ∙ eqb-true _ _ (kept-all (marksOf b .empty) (marksOf b .access) (marksOf b .hit) hit more)
+pub byte-searched : (b : ℕ) (head agrees access : Bool) → proper b ≡ true → byteSearched b head agrees access ≡ byteOf (marksThen (marksOf b) head agrees access)
+byte-searched b head agrees access h =
+    ap (λ x. byteSearched x head agrees access) (sym (byteOf-marksOf b h))
+    ∙ eqb-true _ _ (kept-all (marksOf b .empty) (marksOf b .access) (marksOf b .hit) head agrees access)

@@ -8,7 +8,7 @@ use Rattle.device.proofs.Remarked.{getD-remarked, remarked-more, remarked-none
 use Rattle.std.proofs.shelf.Bits.{mul-add-lt}
 use Rattle.table.specs.Row.{marksSearched}
 use Rattle.table.specs.declared.parts.Marks.{Marks}
-use Rattle.device.proofs.sweeps.compare.Needs as need
+use Rattle.device.proofs.sweeps.compare_rows.Needs as need
 
 pub loop-row-holds : need.loop-row-holds
 loop-row-holds c = sym (remarked-none _ _)
