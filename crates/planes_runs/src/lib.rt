@@ -4,8 +4,11 @@ use planes::PlanesTable;
 use table::Search;
 use table::Table;
 
+#[cfg(test)]
+mod beside;
+
 // A number that looks like chance, from the one before.
-fn next(n: u32) -> u32 {
+pub(crate) fn next(n: u32) -> u32 {
     n.wrapping_mul(1664525).wrapping_add(1013904223)
 }
 
