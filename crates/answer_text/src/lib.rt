@@ -1,4 +1,6 @@
 // Answers of a processor and of a table's questions as text.
+#![tactic(auto)]
+
 mod answers;
 mod faults;
 mod members;

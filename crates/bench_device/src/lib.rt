@@ -1,4 +1,6 @@
 // Runs of devices and of joins of devices: many calls in one, to be timed from outside.
+#![tactic(auto)]
+
 mod cascades;
 mod lent;
 mod runs;

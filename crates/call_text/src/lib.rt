@@ -1,4 +1,6 @@
 // Calls of a processor as text, and text as calls.
+#![tactic(auto)]
+
 mod parts;
 mod reading;
 mod texts;

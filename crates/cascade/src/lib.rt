@@ -1,4 +1,6 @@
 // Cascades of members that are chosen as the program runs.
+#![tactic(auto)]
+
 mod cascades;
 mod levels;
 mod members;

@@ -1,4 +1,6 @@
 // The device: a table over 8,192 words and 8,192 mark bytes that its owner lends.
+#![tactic(auto)]
+
 mod as_table;
 mod bytes;
 mod device;

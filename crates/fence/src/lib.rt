@@ -1,4 +1,6 @@
 // A fence: a table with its first rows hidden.
+#![tactic(auto)]
+
 mod fences;
 mod tables;
 

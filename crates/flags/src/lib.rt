@@ -1,4 +1,6 @@
 // Flags of the members of a table: kinds of flag with their laws, two kinds, and the flags call.
+#![tactic(auto)]
+
 mod call;
 mod cuts;
 mod examples;

@@ -1,4 +1,6 @@
 // A join: the rows of one table and then those of another, as one table.
+#![tactic(auto)]
+
 mod joins;
 mod tables;
 

@@ -1,5 +1,7 @@
 // The life of a processor: its calls and answers as values, the working of a list of calls, and the
 // law that walks over hits are complete.
+#![tactic(auto)]
+
 mod calls;
 mod faults;
 mod lives;

@@ -1,4 +1,6 @@
 // Listings: the head that describes a cascade, and the lines that ask something, as values.
+#![tactic(auto)]
+
 mod asks;
 mod head;
 mod lines;

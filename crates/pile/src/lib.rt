@@ -1,4 +1,6 @@
 // Piles: joins and fences nested over any tables, and code that is proved for every such pile.
+#![tactic(auto)]
+
 mod fours;
 mod pairs;
 

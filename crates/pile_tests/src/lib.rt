@@ -1,4 +1,6 @@
 // Joins and fences at worked examples, over devices: tests, and the search that they make.
+#![tactic(auto)]
+
 ghost use Rattle.std.specs.Prelude.{◌≡◌, true, false};
 
 use table::Search;

@@ -1,4 +1,6 @@
 // A table of 64 rows and width 2 that is held in bit planes.
+#![tactic(auto)]
+
 mod bits;
 mod memory;
 mod planes;

@@ -1,4 +1,6 @@
 // Runs of the plane table: many searches in one call, to be timed from outside, and examples.
+#![tactic(auto)]
+
 use planes::Planes;
 use table::{Search, Table};
 

@@ -1,4 +1,6 @@
 // The ports of an address processor: telegrams come in as blocks, results go out as words.
+#![tactic(auto)]
+
 mod buffers;
 mod faults;
 mod input;

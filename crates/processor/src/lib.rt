@@ -1,4 +1,6 @@
 // An address processor over any table: its row calls, its searches, and the walks over hits and empty rows.
+#![tactic(auto)]
+
 mod faults;
 mod processors;
 mod rows;

@@ -1,4 +1,6 @@
 // The program: a shore rack works a telegram, and each call and its answer is printed.
+#![tactic(auto)]
+
 mod record;
 mod task;
 

@@ -1,4 +1,6 @@
 // The record of a listing: each line worked on the cascade, its answer beside the listing's own.
+#![tactic(auto)]
+
 mod columns;
 mod flags;
 mod holding;

@@ -1,4 +1,6 @@
 // The registers of a processor, one at a time, and what each says as text.
+#![tactic(auto)]
+
 mod names;
 mod parts;
 mod telling;

@@ -1,5 +1,7 @@
 // The registers of an address processor as plain values, and the calls that change nothing else:
 // the set-up of the ports, their starts and their stop.
+#![tactic(auto)]
+
 mod faults;
 mod setting;
 mod start;

@@ -1,4 +1,6 @@
 // The worked examples: those that are proved of the definitions, as one list, and tests.
+#![tactic(auto)]
+
 #[cfg(test)]
 mod commands;
 mod lists;

@@ -1,4 +1,6 @@
 // What a table is: rows of words with marks, the calls that every table answers, and its refusals.
+#![tactic(auto)]
+
 mod faults;
 mod parts;
 mod tables;

@@ -1,4 +1,6 @@
 // The words and numbers of a line of text: where they stand, what they say, and how they are written.
+#![tactic(auto)]
+
 mod faults;
 mod hex;
 mod numbers;
