@@ -33,7 +33,7 @@ impl Step for OutputStep {
 
 // Whether a step, the one with the number `from` or a later one, is a last one.
 fn some_ends<S: Step>(steps: &[S], from: u32) -> bool
-    ensures answer { result ≡ some_ends ends steps.now from }
+    ensures answer { result ≡ some_ends S.Step.ends steps.now from }
 {
     for i in from as usize..steps.len() {
         if steps[i].ends() {

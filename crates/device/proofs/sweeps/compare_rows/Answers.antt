@@ -13,8 +13,8 @@ pub bounds-words-row : goal.bounds-words-row
 bounds-words-row c =
     omega (arith, mul-add-lt c.loop-row.row c.args.width c.args.query.segment c.args.depth c.loop-row-test.true c.requires.within)
 
-pub offset-bounds-words-row : goal.offset-bounds-words-row
-offset-bounds-words-row c =
+pub offset_bounds-words-row : goal.offset_bounds-words-row
+offset_bounds-words-row c =
     let low : c.loop-row.row * c.args.width + c.args.query.segment < length c.args.words.now =
     omega (arith, mul-add-lt c.loop-row.row c.args.width c.args.query.segment c.args.depth c.loop-row-test.true c.requires.within) in
     search rules

@@ -7,5 +7,5 @@ pub returns : goal.returns
 returns g c =
     let rs = g.T.Table.rows c.args.table.now in
     let depth : c.shape-depth.result.depth ≡ length rs = ap (λ s. s.depth) c.shape-depth.ensures.answer in
-    let passed : Cut c.args.cut.now (length rs) = rw depth at c.in-ok-check.ensures.cut.1 in
+    let passed : Cut c.args.cut.now (length rs) = rw depth at c.in_ok-check.ensures.cut.1 in
     record { answer = search rules; out = search rules; running = running-told g.K.FlagKind.laws rs c.args.cut.now passed }

@@ -19,16 +19,16 @@ loop-member-preserved g c =
     let rs = g.T.Table.rows c.args.table.now in
     let cut = c.args.cut.now in
     let member = c.loop-member.member in
-    let end = c.end-of-end.result in
+    let end = c.end_of-end.result in
     let start = get_or cut member c.args.depth in
-    let is-end : end ≡ end_of cut c.args.depth member = c.end-of-end.ensures.answer in
+    let is-end : end ≡ end_of cut c.args.depth member = c.end_of-end.ensures.answer in
     let rising : start ≤ end = rw is-end (c.requires.cut.rising member c.loop-member-test.true) in
     let within : end ≤ length rs = rw (is-end, ← c.requires.depth) (c.requires.cut.within member c.loop-member-test.true) in
     let known = c.loop-member.invariant.0 in
     let next : Lasting k.flag_of rs 0 end (part_of c.if-until-end.flag c.if-until-end.until) =
     elim c.if-until-end.branch [
-      | then-until-end w ↦ handed-on k.laws rs start end _ _ _ _ known w.joined-on-next.result w.if-until-end.true within
-          w.joined-on-next.ensures.answer w.flag-is w.until-is
+      | then-until-end w ↦ handed-on k.laws rs start end _ _ _ _ known w.joined_on-next.result w.if-until-end.true within
+          w.joined_on-next.ensures.answer w.flag-is w.until-is
       | else-until-end w ↦ handed-over k.laws rs start end _ _ _ _ known rising w.if-until-end.false w.flag-is w.until-is
     ] in
     let told = handed-told k.laws rs cut c.args.depth member end _ _ is-end c.requires.depth next in (

@@ -3,8 +3,8 @@ use Rattle.flags.proofs.Checks.{break-at, break-none, cut-passed}
 use Rattle.flags.specs.Cuts.{obeys, refused_at}
 use Rattle.flags.proofs.cuts.check_starts.Goals as goal
 
-pub returns-then-not-keeps-rule : goal.returns-then-not-keeps-rule
-returns-then-not-keeps-rule c =
+pub returns-then-not-keeps_rule : goal.returns-then-not-keeps_rule
+returns-then-not-keeps_rule c =
     let cut = c.args.cut.now in
     let broken : obeys cut c.args.depth c.loop-member.member ≡ false = search rules in
     record {

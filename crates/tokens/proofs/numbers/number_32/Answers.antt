@@ -2,8 +2,8 @@ use Rattle.std.proofs.Common.{rules}
 use Rattle.tokens.proofs.ReadBack.{numbers-32-read-back}
 use Rattle.tokens.proofs.numbers.number_32.Goals as goal
 
-pub returns-in-err-number : goal.returns-in-err-number
-returns-in-err-number c = record { answer = search rules; back = numbers-32-read-back }
+pub returns-in_err-number : goal.returns-in_err-number
+returns-in_err-number c = record { answer = search rules; back = numbers-32-read-back }
 
 pub returns : goal.returns
 returns c = record { answer = search rules; back = numbers-32-read-back }

@@ -5,15 +5,15 @@ use Rattle.device.specs.Layout.{marks_of}
 use Rattle.device.specs.Proved.Rows.{line-granted, marks_at-rows}
 use Rattle.device.proofs.as_table.DeviceTable.marks.Goals as goal
 
-pub returns-in-err-line : goal.returns-in-err-line
-returns-in-err-line c =
-    let p = err_from_is_err_and c.from-residual.result c.from-residual.ensures.1 in
-    rw (p.1, p.2) record { answer = row-alike _ _ _ _ _ c.in-err-line.ensures.answer }
+pub returns-in_err-line : goal.returns-in_err-line
+returns-in_err-line c =
+    let p = err_from_is_err_and c.from_residual.result c.from_residual.ensures.1 in
+    rw (p.1, p.2) record { answer = row-alike _ _ _ _ _ c.in_err-line.ensures.answer }
 
 pub returns : goal.returns
 returns c =
     let d = c.args.self.now in
-    let at = c.in-ok-line.ensures.within in
+    let at = c.in_ok-line.ensures.within in
     let told = marks_at-rows d.words.now d.marks.now d.width d.depth c.args.row at.1 in
     record {
       answer = ap Ok (c.unpack.ensures.answer ∙ ap (λ i. marks_of (get_or d.marks.now i 0)) at.0 ∙ sym told)

@@ -12,39 +12,32 @@ use Rattle.device.specs.Proved.Rows.{place-granted}
 use Rattle.device.specs.Proved.Memory.{frame_same, framed}
 use Rattle.device.proofs.as_table.DeviceTable.write.Goals as goal
 
-pub returns-in-err-at : goal.returns-in-err-at
-returns-in-err-at c =
-    let p = err_from_is_err_and c.from-residual.result c.from-residual.ensures.1 in
-    rw (p.1, p.2) record { answer = cell-alike _ _ _ _ _ _ _ c.in-err-at.ensures.answer; rows = refl; width = refl; frame = frame_same _ }
+pub returns-in_err-at : goal.returns-in_err-at
+returns-in_err-at c =
+    let p = err_from_is_err_and c.from_residual.result c.from_residual.ensures.1 in
+    rw (p.1, p.2) record { answer = cell-alike _ _ _ _ _ _ _ c.in_err-at.ensures.answer; rows = refl; width = refl; frame = frame_same _ }
 
-pub invariant-of-self-2 : goal.invariant-of-self-2
-invariant-of-self-2 c =
+pub invariant_of-self-2 : goal.invariant_of-self-2
+invariant_of-self-2 c =
     let d = c.args.self.now in
-    let at = c.in-ok-at.ensures.within in
+    let at = c.in_ok-at.ensures.within in
     let old = get_or d.marks.now c.args.row 0 in
     let m = marks_written c.args.segment (marks_of old) in
     let stored : c.pack.result ≡ byte_of m = c.pack.ensures.answer ∙ ap byte_of (c.written-marks.ensures.answer ∙ ap (marks_written c.args.segment) c.unpack.ensures.answer) in
-    let quiet = quiet-written c.args.segment (marks_of old) (quiet-marks_of old (d.tidy c.args.row at.1)) in (
-      d.some,
-      (
-        d.narrow,
-        (
-          d.few,
-          (
-            simp length-set d.worded,
-            (
-              simp length-set d.marked,
-              (λ r h. rw stored (tidy-set d.marks.now d.depth c.args.row m d.marked at.1 quiet d.tidy r h), tt),
-            ),
-          ),
-        ),
-      ),
-    )
+    let quiet = quiet-written c.args.segment (marks_of old) (quiet-marks_of old (d.tidy c.args.row at.1)) in
+    record {
+      some = d.some;
+      narrow = d.narrow;
+      few = d.few;
+      worded = simp length-set d.worded;
+      marked = simp length-set d.marked;
+      tidy = λ r h. rw stored (tidy-set d.marks.now d.depth c.args.row m d.marked at.1 quiet d.tidy r h);
+    }
 
 pub returns : goal.returns
 returns c =
     let d = c.args.self.now in
-    let at = c.in-ok-at.ensures.within in
+    let at = c.in_ok-at.ensures.within in
     let m = marks_written c.args.segment (marks_of (get_or d.marks.now c.args.row 0)) in
     let stored : c.pack.result ≡ byte_of m = c.pack.ensures.answer ∙ ap byte_of (c.written-marks.ensures.answer ∙ ap (marks_written c.args.segment) c.unpack.ensures.answer) in
     let low : c.args.row * d.width + c.args.segment < d.depth * d.width = omega (arith, mul-add-lt c.args.row d.width c.args.segment d.depth at.1 at.2) in

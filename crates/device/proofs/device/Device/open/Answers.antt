@@ -4,8 +4,8 @@ use Rattle.device.specs.Opening.{checked, depth_at}
 use Rattle.table.proofs.Granted.{granted-new, granted-old}
 use Rattle.device.proofs.device.Device.open.Goals as goal
 
-pub returns-then-is-err : goal.returns-then-is-err
-returns-then-is-err c =
+pub returns-then-is_err : goal.returns-then-is_err
+returns-then-is_err c =
     let w = c.args.width in
     let n = length c.args.words.now in
     let m = length c.args.marks.now in

@@ -8,26 +8,19 @@ use Rattle.table.specs.Row.{Row, marks_searched, searched}
 use Rattle.table.specs.declared.parts.Marks.{Marks}
 use Rattle.device.proofs.device.Device.searched.Goals as goal
 
-pub invariant-of-result : goal.invariant-of-result
-invariant-of-result c =
+pub invariant_of-result : goal.invariant_of-result
+invariant_of-result c =
     let d = c.args.self in
     let ms = d.marks.now in
-    let h : ℕ → Marks → Marks = λ r. marks_searched c.args.query (get_or d.words.now (r * d.width + c.args.query.segment) 0) in (
-      d.some,
-      (
-        d.narrow,
-        (
-          d.few,
-          (
-            d.worded,
-            (
-              rw (c.compare.ensures.memory, length-remarked h ms d.depth d.marked) d.marked,
-              (rw c.compare.ensures.memory (tidy-remarked h ms d.depth (λ r lt. quiet-searched c.args.query _ (marks_of (get_or ms r 0)))), tt),
-            ),
-          ),
-        ),
-      ),
-    )
+    let h : ℕ → Marks → Marks = λ r. marks_searched c.args.query (get_or d.words.now (r * d.width + c.args.query.segment) 0) in
+    record {
+      some = d.some;
+      narrow = d.narrow;
+      few = d.few;
+      worded = d.worded;
+      marked = rw (c.compare.ensures.memory, length-remarked h ms d.depth d.marked) d.marked;
+      tidy = rw c.compare.ensures.memory (tidy-remarked h ms d.depth (λ r lt. quiet-searched c.args.query _ (marks_of (get_or ms r 0))));
+    }
 
 pub returns : goal.returns
 returns c =

@@ -1,6 +1,6 @@
 use Rattle.std.proofs.Common.{rules}
 use Rattle.table.proofs.Checks.{cell-granted, cell_row, cell-segment}
-use Rattle.fence.proofs.Hidden.{length-shown}
+use Rattle.fence.proofs.Hiding.{length-shown}
 use Rattle.fence.proofs.fences.Fence.cell.Goals as goal
 
 pub returns-then-row-shape : goal.returns-then-row-shape

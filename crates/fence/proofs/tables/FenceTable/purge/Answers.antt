@@ -1,5 +1,5 @@
 use Rattle.std.proofs.Common.{rules}
-use Rattle.fence.proofs.Hidden.{shown-map}
+use Rattle.fence.proofs.Hiding.{shown-map}
 use Rattle.fence.proofs.tables.FenceTable.purge.Goals as goal
 
 pub returns : goal.returns

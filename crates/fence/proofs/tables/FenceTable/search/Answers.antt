@@ -1,5 +1,5 @@
 use Rattle.std.proofs.Common.{rules}
-use Rattle.fence.proofs.Hidden.{granted-map}
+use Rattle.fence.proofs.Hiding.{granted-map}
 use Rattle.fence.proofs.tables.FenceTable.search.Goals as goal
 
 pub returns : goal.returns

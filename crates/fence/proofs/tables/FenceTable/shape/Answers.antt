@@ -1,5 +1,5 @@
 use Rattle.std.proofs.Common.{rules}
-use Rattle.fence.proofs.Hidden.{length-shown}
+use Rattle.fence.proofs.Hiding.{length-shown}
 use Rattle.fence.proofs.tables.FenceTable.shape.Goals as goal
 
 pub returns : goal.returns

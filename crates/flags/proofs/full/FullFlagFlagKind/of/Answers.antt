@@ -2,9 +2,9 @@ use Rattle.std.proofs.Common.{ℕ, sym, arith, rules}
 use Rattle.flags.proofs.Empties.{full-before, full-empty, full-none}
 use Rattle.flags.proofs.full.FullFlagFlagKind.of.Goals as goal
 
-pub returns-in-default : goal.returns-in-default
-returns-in-default g c =
-    let told = λ (k : ℕ). full-none (g.T.Table.rows c.args.table.now) c.args.from k c.in-default.ensures.answer in
+pub returns-in_default : goal.returns-in_default
+returns-in_default g c =
+    let told = λ (k : ℕ). full-none (g.T.Table.rows c.args.table.now) c.args.from k c.in_default.ensures.answer in
     record { flag = sym (told c.args.to); until = record { reached = search rules; same = λ k above below. told k } }
 
 pub returns-then-row-to : goal.returns-then-row-to

@@ -9,6 +9,6 @@ returns-in-Some g c =
 
 pub returns-in-None : goal.returns-in-None
 returns-in-None g c = record {
-  answer = first-lower _ _ _ _ _ _ (λ row. refl) _ _ _ _ c.in-None.ensures.answer (search rules) c.saturating-sub.ensures c.first-hit-in-None.ensures.answer
+  answer = first-lower _ _ _ _ _ _ (λ row. refl) _ _ _ _ c.in-None.ensures.answer (search rules) c.saturating_sub.ensures c.first_hit-in-None.ensures.answer
       c.below.ensures.answer;
 }

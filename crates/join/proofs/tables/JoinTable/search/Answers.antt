@@ -7,10 +7,10 @@ use Rattle.join.proofs.tables.JoinTable.search.Goals as goal
 pub returns-then-query-shape : goal.returns-then-query-shape
 returns-then-query-shape g c = search (rules, segment-refused)
 
-pub returns-in-err-search : goal.returns-in-err-search
-returns-in-err-search g c =
+pub returns-in_err-search : goal.returns-in_err-search
+returns-in_err-search g c =
     let width = ap (λ shape. shape.width) c.shape.ensures.answer in
-    absurd (segment-stands _ _ _ _ (omega arith) c.in-err-search.ensures.answer)
+    absurd (segment-stands _ _ _ _ (omega arith) c.in_err-search.ensures.answer)
 
 pub returns : goal.returns
-returns g c = let up = c.in-ok-search.ensures in search (rules, search-granted, searched-all, even-searched)
+returns g c = let up = c.in_ok-search.ensures in search (rules, search-granted, searched-all, even-searched)

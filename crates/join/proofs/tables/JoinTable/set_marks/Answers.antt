@@ -5,15 +5,15 @@ use Rattle.join.proofs.Cuts.{even-marked}
 use Rattle.join.proofs.Seats.{changed-lower, changed-upper, row-lower, row-upper, set-marks-lower, set-marks-upper}
 use Rattle.join.proofs.tables.JoinTable.set_marks.Goals as goal
 
-pub returns-in-err-row : goal.returns-in-err-row
-returns-in-err-row g c =
-    let p = err_from_is_err_and c.from-residual.result c.from-residual.ensures.1 in
-    rw (p.1, p.2) (record { answer = row-alike _ _ _ _ _ c.in-err-row.ensures.answer; rows = refl; width = refl; frame = (g.U.Table.same _, g.L.Table.same _) })
+pub returns-in_err-row : goal.returns-in_err-row
+returns-in_err-row g c =
+    let p = err_from_is_err_and c.from_residual.result c.from_residual.ensures.1 in
+    rw (p.1, p.2) (record { answer = row-alike _ _ _ _ _ c.in_err-row.ensures.answer; rows = refl; width = refl; frame = (g.U.Table.same _, g.L.Table.same _) })
 
 pub returns-in-Upper : goal.returns-in-Upper
 returns-in-Upper g c =
-    let at = row-upper _ _ _ _ _ _ _ _ c.in-ok-row.ensures.answer c.in-Upper.is in search (rules, set-marks-upper, changed-upper, even-marked)
+    let at = row-upper _ _ _ _ _ _ _ _ c.in_ok-row.ensures.answer c.in-Upper.is in search (rules, set-marks-upper, changed-upper, even-marked)
 
 pub returns-in-Lower : goal.returns-in-Lower
 returns-in-Lower g c =
-    let at = row-lower _ _ _ _ _ _ _ _ c.in-ok-row.ensures.answer c.in-Lower.is in search (rules, set-marks-lower, changed-lower, even-marked)
+    let at = row-lower _ _ _ _ _ _ _ _ c.in_ok-row.ensures.answer c.in-Lower.is in search (rules, set-marks-lower, changed-lower, even-marked)

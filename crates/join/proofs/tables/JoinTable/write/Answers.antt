@@ -5,15 +5,15 @@ use Rattle.join.proofs.Cuts.{even-written}
 use Rattle.join.proofs.Seats.{cell-lower, cell-upper, changed-lower, changed-upper, write-lower, write-upper}
 use Rattle.join.proofs.tables.JoinTable.write.Goals as goal
 
-pub returns-in-err-row : goal.returns-in-err-row
-returns-in-err-row g c =
-    let p = err_from_is_err_and c.from-residual.result c.from-residual.ensures.1 in
-    rw (p.1, p.2) (record { answer = cell-alike _ _ _ _ _ _ _ c.in-err-row.ensures.answer; rows = refl; width = refl; frame = (g.U.Table.same _, g.L.Table.same _) })
+pub returns-in_err-row : goal.returns-in_err-row
+returns-in_err-row g c =
+    let p = err_from_is_err_and c.from_residual.result c.from_residual.ensures.1 in
+    rw (p.1, p.2) (record { answer = cell-alike _ _ _ _ _ _ _ c.in_err-row.ensures.answer; rows = refl; width = refl; frame = (g.U.Table.same _, g.L.Table.same _) })
 
 pub returns-in-Upper : goal.returns-in-Upper
 returns-in-Upper g c =
-    let at = cell-upper _ _ _ _ _ _ _ _ _ c.in-ok-row.ensures.answer c.in-Upper.is in search (rules, write-upper, changed-upper, even-written)
+    let at = cell-upper _ _ _ _ _ _ _ _ _ c.in_ok-row.ensures.answer c.in-Upper.is in search (rules, write-upper, changed-upper, even-written)
 
 pub returns-in-Lower : goal.returns-in-Lower
 returns-in-Lower g c =
-    let at = cell-lower _ _ _ _ _ _ _ _ _ c.in-ok-row.ensures.answer c.in-Lower.is in search (rules, write-lower, changed-lower, even-written)
+    let at = cell-lower _ _ _ _ _ _ _ _ _ c.in_ok-row.ensures.answer c.in-Lower.is in search (rules, write-lower, changed-lower, even-written)

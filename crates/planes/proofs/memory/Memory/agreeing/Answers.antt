@@ -18,12 +18,12 @@ loop-b-init c = (
 
 pub loop-b-preserved : goal.loop-b-preserved
 loop-b-preserved c = (
-  or_lt 64 c.loop-b.missed _ c.loop-b.invariant.0 (lt_of_le_of_lt (and_le_r _ c.spread-compared.result) c.spread-compared.type-inv),
+  or_lt 64 c.loop-b.missed _ c.loop-b.invariant.0 (lt_of_le_of_lt (and_le_r _ c.spread-compared.result) c.spread-compared.type_inv),
   λ k h. differ-turn c.args.key c.args.mask (word_of c.args.self.now.planes c.args.segment k) _ _ _ _ c.loop-b.b k
       (c.loop-b.invariant.1 k h)
       (sym (bit_of-word_of c.args.self.now.planes c.args.segment k c.loop-b.b (omega arith)))
-      (c.spread-wanted.ensures k h ∙ c.word-bit.ensures)
-      (c.spread-compared.ensures k h ∙ ap not c.word-bit-in-loop-b.ensures),
+      (c.spread-wanted.ensures k h ∙ c.word_bit.ensures)
+      (c.spread-compared.ensures k h ∙ ap not c.word_bit-in-loop-b.ensures),
 )
 
 pub returns : goal.returns

@@ -3,9 +3,9 @@ use Rattle.planes.specs.Rows.{opened}
 use Rattle.planes.proofs.PutLaws.{laid-opened, quiet-opened, rows-opened}
 use Rattle.planes.proofs.planes.Planes.new.Goals as goal
 
-pub invariant-of-result : goal.invariant-of-result
+pub invariant_of-result : goal.invariant_of-result
 unfolding opened
-invariant-of-result c = (quiet-opened, (laid-opened, tt))
+invariant_of-result c = record { quiet = quiet-opened; laid = laid-opened }
 
 pub returns : goal.returns
 unfolding opened

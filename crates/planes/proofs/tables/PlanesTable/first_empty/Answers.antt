@@ -4,4 +4,4 @@ use Rattle.planes.proofs.RowLaws.{first_bit}
 use Rattle.planes.proofs.tables.PlanesTable.first_empty.Goals as goal
 
 pub returns : goal.returns
-returns c = record { answer = first_bit c.args.self.now.memory is_empty c.args.self.now.memory.empty (λ r h. refl) c.args.from _ c.first-from.ensures }
+returns c = record { answer = first_bit c.args.self.now.memory is_empty c.args.self.now.memory.empty (λ r h. refl) c.args.from _ c.first_from.ensures }

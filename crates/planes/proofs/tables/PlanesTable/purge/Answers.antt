@@ -5,13 +5,13 @@ use Rattle.planes.proofs.tables.PlanesTable.purge.Goals as goal
 
 pub mark-requires : goal.mark-requires
 mark-requires c =
-    quiet-purged c.args.self.now.memory c.args.kind c.of-kind-gone.result c.of-kind-gone.type-inv c.of-kind-gone.ensures
+    quiet-purged c.args.self.now.memory c.args.kind c.of_kind-gone.result c.of_kind-gone.type_inv c.of_kind-gone.ensures
     c.args.self.now.quiet
 
 pub returns : goal.returns
 returns c = record {
   rows = ap rows_of c.mark.ensures
-      ∙ rows-purged c.args.self.now.memory c.args.kind c.of-kind-gone.result c.of-kind-gone.type-inv c.of-kind-gone.ensures;
+      ∙ rows-purged c.args.self.now.memory c.args.kind c.of_kind-gone.result c.of_kind-gone.type_inv c.of_kind-gone.ensures;
   width = refl;
   frame = c.mark.new.self.laid;
 }

@@ -14,14 +14,14 @@ returns-then-row-ge-DEPTH c = record {
 }
 
 pub mark-requires : goal.mark-requires
-mark-requires c = rw c.with-bit-empty.ensures (quiet-marked c.args.self.now.memory c.args.row c.args.marking)
+mark-requires c = rw c.with_bit-empty.ensures (quiet-marked c.args.self.now.memory c.args.row c.args.marking)
 
 pub returns : goal.returns
 returns c =
     let m = c.args.self.now.memory in
     record {
       answer = row-granted (rows_of m) c.args.row tt (omega (arith, length-rows m));
-      rows = ap rows_of c.mark.ensures ∙ rw (c.with-bit-empty.ensures, c.with-bit-access.ensures)
+      rows = ap rows_of c.mark.ensures ∙ rw (c.with_bit-empty.ensures, c.with_bit-access.ensures)
           (rows-marked m c.args.row c.args.marking c.if-row-ge-DEPTH.false c.args.self.now.quiet);
       width = refl;
       frame = c.mark.new.self.laid;

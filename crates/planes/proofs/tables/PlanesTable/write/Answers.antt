@@ -20,8 +20,11 @@ returns-then-segment-ge-WIDTH c = record {
   frame = c.args.self.now.laid;
 }
 
-pub invariant-of-self : goal.invariant-of-self
-invariant-of-self c = (quiet_put c.put.ensures (omega arith) c.args.self.now.quiet, (laid-put c.put.ensures (omega arith) c.args.self.now.laid, tt))
+pub invariant_of-self : goal.invariant_of-self
+invariant_of-self c = record {
+  quiet = quiet_put c.put.ensures (omega arith) c.args.self.now.quiet;
+  laid = laid-put c.put.ensures (omega arith) c.args.self.now.laid;
+}
 
 pub returns : goal.returns
 returns c = record {
