@@ -21,11 +21,11 @@ pub enum BlockAnswer {
 
 // One block of a telegram. A refused block changes nothing, and its step stays next.
 pub fn block<T: Table>(processor: &mut Processor<T>, value: u32) -> Result<BlockAnswer, PortFault>
-    ensures answer { result ≡ block_answer (width processor.old.table) processor.old.registers value processor.old.registers.input.sequence }
-    ensures registers { processor.new.registers ≡ granted result (block_left (rows processor.old.table) processor.old.registers value processor.old.registers.input.sequence) processor.old.registers }
-    ensures rows { rows processor.new.table ≡ granted result (ran (block_asks processor.old.registers value processor.old.registers.input.sequence) (rows processor.old.table)) (rows processor.old.table) }
-    ensures width { width processor.new.table ≡ width processor.old.table }
-    ensures frame { frame processor.old.table processor.new.table }
+    ensures answer { result ≡ block_answer (T.width processor.old.table) processor.old.registers value processor.old.registers.input.sequence }
+    ensures registers { processor.new.registers ≡ granted result (block_left (T.rows processor.old.table) processor.old.registers value processor.old.registers.input.sequence) processor.old.registers }
+    ensures rows { T.rows processor.new.table ≡ granted result (ran (block_asks processor.old.registers value processor.old.registers.input.sequence) (T.rows processor.old.table)) (T.rows processor.old.table) }
+    ensures width { T.width processor.new.table ≡ T.width processor.old.table }
+    ensures frame { T.frame processor.old.table processor.new.table }
 {
     match processor.registers.input.sequence {
         Sequence::NotStarted => Err(PortFault::NotStarted),
@@ -53,11 +53,11 @@ fn open_block<T: Table>(
     value: u32,
 ) -> Result<BlockAnswer, PortFault>
     requires step { place.step < 8 }
-    ensures answer { result ≡ open_answer (width processor.old.table) processor.old.registers place value }
-    ensures registers { processor.new.registers ≡ granted result (open_left (rows processor.old.table) processor.old.registers place value) processor.old.registers }
-    ensures rows { rows processor.new.table ≡ granted result (ran (open_asks processor.old.registers place value) (rows processor.old.table)) (rows processor.old.table) }
-    ensures width { width processor.new.table ≡ width processor.old.table }
-    ensures frame { frame processor.old.table processor.new.table }
+    ensures answer { result ≡ open_answer (T.width processor.old.table) processor.old.registers place value }
+    ensures registers { processor.new.registers ≡ granted result (open_left (T.rows processor.old.table) processor.old.registers place value) processor.old.registers }
+    ensures rows { T.rows processor.new.table ≡ granted result (ran (open_asks processor.old.registers place value) (T.rows processor.old.table)) (T.rows processor.old.table) }
+    ensures width { T.width processor.new.table ≡ T.width processor.old.table }
+    ensures frame { T.frame processor.old.table processor.new.table }
 {
     let input = processor.registers.input;
     let width = processor.registers.setup.width;
@@ -93,11 +93,11 @@ fn run_step<T: Table>(
 ) -> Result<BlockAnswer, PortFault>
     requires step { place.step < 8 }
     requires block { place.block < 64 }
-    ensures answer { result ≡ step_answer (width processor.old.table) processor.old.registers place }
-    ensures registers { processor.new.registers ≡ granted result (step_left (map (searched (asked (step_at processor.old.registers place) buffers)) (rows processor.old.table)) processor.old.registers place buffers) processor.old.registers }
-    ensures rows { rows processor.new.table ≡ granted result (map (searched (asked (step_at processor.old.registers place) buffers)) (rows processor.old.table)) (rows processor.old.table) }
-    ensures width { width processor.new.table ≡ width processor.old.table }
-    ensures frame { frame processor.old.table processor.new.table }
+    ensures answer { result ≡ step_answer (T.width processor.old.table) processor.old.registers place }
+    ensures registers { processor.new.registers ≡ granted result (step_left (map (searched (asked (step_at processor.old.registers place) buffers)) (T.rows processor.old.table)) processor.old.registers place buffers) processor.old.registers }
+    ensures rows { T.rows processor.new.table ≡ granted result (map (searched (asked (step_at processor.old.registers place) buffers)) (T.rows processor.old.table)) (T.rows processor.old.table) }
+    ensures width { T.width processor.new.table ≡ T.width processor.old.table }
+    ensures frame { T.frame processor.old.table processor.new.table }
 {
     let channel = processor
         .registers

@@ -12,7 +12,7 @@ use table::Table;
 
 // The next word. A refused step stays next.
 pub fn word<T: Table>(processor: &mut Processor<T>) -> Result<u32, PortFault>
-    ensures answer { result ≡ word_answer (width processor.old.table) (rows processor.old.table) processor.old.registers processor.old.registers.output }
+    ensures answer { result ≡ word_answer (T.width processor.old.table) (T.rows processor.old.table) processor.old.registers processor.old.registers.output }
     ensures registers { processor.new.registers ≡ granted result (word_left processor.old.registers processor.old.registers.output) processor.old.registers }
     ensures table { processor.new.table ≡ processor.old.table }
 {
@@ -32,7 +32,7 @@ pub fn word<T: Table>(processor: &mut Processor<T>) -> Result<u32, PortFault>
 // The word of the step that is next in an open sequence.
 fn open_word<T: Table>(processor: &mut Processor<T>, place: OutputPlace) -> Result<u32, PortFault>
     requires step { place.step < 8 }
-    ensures answer { result ≡ at_step place.step (item_word (width processor.old.table) (rows processor.old.table) processor.old.registers (output_step_at processor.old.registers place).item) }
+    ensures answer { result ≡ at_step place.step (item_word (T.width processor.old.table) (T.rows processor.old.table) processor.old.registers (output_step_at processor.old.registers place).item) }
     ensures registers { processor.new.registers ≡ granted result (with_output (word_following (output_step_at processor.old.registers place) place) processor.old.registers) processor.old.registers }
     ensures table { processor.new.table ≡ processor.old.table }
 {
@@ -51,7 +51,7 @@ fn open_word<T: Table>(processor: &mut Processor<T>, place: OutputPlace) -> Resu
 }
 
 fn item_word<T: Table>(processor: &Processor<T>, item: Item) -> Result<u32, CommandFault>
-    ensures answer { result ≡ item_word (width processor.now.table) (rows processor.now.table) processor.now.registers item }
+    ensures answer { result ≡ item_word (T.width processor.now.table) (T.rows processor.now.table) processor.now.registers item }
 {
     let registers = processor.registers;
     let address = registers.found.address;

@@ -13,34 +13,34 @@ use table::{Marking, Marks, Purge, Table};
 
 impl<T: Table> Processor<T> {
     pub fn read(&self, row: u32, segment: u32) -> Result<u32, CommandFault>
-        ensures answer { result ≡ command (on_cell (width self.now.table) (rows self.now.table) row segment (word_at (rows self.now.table) row segment)) }
+        ensures answer { result ≡ command (on_cell (T.width self.now.table) (T.rows self.now.table) row segment (word_at (T.rows self.now.table) row segment)) }
     {
         Ok(self.table.read(row, segment)?)
     }
 
     pub fn write(&mut self, row: u32, segment: u32, word: u32) -> Result<(), CommandFault>
-        ensures answer { result ≡ command (on_cell (width self.old.table) (rows self.old.table) row segment tt) }
+        ensures answer { result ≡ command (on_cell (T.width self.old.table) (T.rows self.old.table) row segment tt) }
         ensures registers { self.new.registers ≡ self.old.registers }
-        ensures rows { rows self.new.table ≡ granted result (change row (written segment word) (rows self.old.table)) (rows self.old.table) }
-        ensures width { width self.new.table ≡ width self.old.table }
-        ensures frame { frame self.old.table self.new.table }
+        ensures rows { T.rows self.new.table ≡ granted result (change row (written segment word) (T.rows self.old.table)) (T.rows self.old.table) }
+        ensures width { T.width self.new.table ≡ T.width self.old.table }
+        ensures frame { T.frame self.old.table self.new.table }
     {
         self.table.write(row, segment, word)?;
         Ok(())
     }
 
     pub fn marks(&self, row: u32) -> Result<Marks, CommandFault>
-        ensures answer { result ≡ command (on_row (rows self.now.table) row (marks_at (rows self.now.table) row)) }
+        ensures answer { result ≡ command (on_row (T.rows self.now.table) row (marks_at (T.rows self.now.table) row)) }
     {
         Ok(self.table.marks(row)?)
     }
 
     pub fn set_marks(&mut self, row: u32, marking: Marking) -> Result<(), CommandFault>
-        ensures answer { result ≡ command (on_row (rows self.old.table) row tt) }
+        ensures answer { result ≡ command (on_row (T.rows self.old.table) row tt) }
         ensures registers { self.new.registers ≡ self.old.registers }
-        ensures rows { rows self.new.table ≡ granted result (change row (marked marking) (rows self.old.table)) (rows self.old.table) }
-        ensures width { width self.new.table ≡ width self.old.table }
-        ensures frame { frame self.old.table self.new.table }
+        ensures rows { T.rows self.new.table ≡ granted result (change row (marked marking) (T.rows self.old.table)) (T.rows self.old.table) }
+        ensures width { T.width self.new.table ≡ T.width self.old.table }
+        ensures frame { T.frame self.old.table self.new.table }
     {
         self.table.set_marks(row, marking)?;
         Ok(())
@@ -48,7 +48,7 @@ impl<T: Table> Processor<T> {
 
     // The word in a segment of the row at the hit address.
     pub fn read_at_hit(&self, segment: u32) -> Result<u32, CommandFault>
-        ensures answer { result ≡ at_address NoHitAddress (λ row. on_cell (width self.now.table) (rows self.now.table) row segment (word_at (rows self.now.table) row segment)) self.now.registers.found.address }
+        ensures answer { result ≡ at_address NoHitAddress (λ row. on_cell (T.width self.now.table) (T.rows self.now.table) row segment (word_at (T.rows self.now.table) row segment)) self.now.registers.found.address }
     {
         match self.registers.found.address {
             None => Err(CommandFault::NoHitAddress),
@@ -58,11 +58,11 @@ impl<T: Table> Processor<T> {
 
     // Replaces the word in a segment of the row at the hit address.
     pub fn write_at_hit(&mut self, segment: u32, word: u32) -> Result<(), CommandFault>
-        ensures answer { result ≡ at_address NoHitAddress (λ row. on_cell (width self.old.table) (rows self.old.table) row segment tt) self.old.registers.found.address }
+        ensures answer { result ≡ at_address NoHitAddress (λ row. on_cell (T.width self.old.table) (T.rows self.old.table) row segment tt) self.old.registers.found.address }
         ensures registers { self.new.registers ≡ self.old.registers }
-        ensures rows { rows self.new.table ≡ granted result (change_at (written segment word) (rows self.old.table) self.old.registers.found.address) (rows self.old.table) }
-        ensures width { width self.new.table ≡ width self.old.table }
-        ensures frame { frame self.old.table self.new.table }
+        ensures rows { T.rows self.new.table ≡ granted result (change_at (written segment word) (T.rows self.old.table) self.old.registers.found.address) (T.rows self.old.table) }
+        ensures width { T.width self.new.table ≡ T.width self.old.table }
+        ensures frame { T.frame self.old.table self.new.table }
     {
         match self.registers.found.address {
             None => Err(CommandFault::NoHitAddress),
@@ -72,7 +72,7 @@ impl<T: Table> Processor<T> {
 
     // The word in a segment of the row at the empty address.
     pub fn read_at_empty(&self, segment: u32) -> Result<u32, CommandFault>
-        ensures answer { result ≡ at_address NoEmptyAddress (λ row. on_cell (width self.now.table) (rows self.now.table) row segment (word_at (rows self.now.table) row segment)) self.now.registers.empty }
+        ensures answer { result ≡ at_address NoEmptyAddress (λ row. on_cell (T.width self.now.table) (T.rows self.now.table) row segment (word_at (T.rows self.now.table) row segment)) self.now.registers.empty }
     {
         match self.registers.empty {
             None => Err(CommandFault::NoEmptyAddress),
@@ -82,11 +82,11 @@ impl<T: Table> Processor<T> {
 
     // Replaces the word in a segment of the row at the empty address.
     pub fn write_at_empty(&mut self, segment: u32, word: u32) -> Result<(), CommandFault>
-        ensures answer { result ≡ at_address NoEmptyAddress (λ row. on_cell (width self.old.table) (rows self.old.table) row segment tt) self.old.registers.empty }
+        ensures answer { result ≡ at_address NoEmptyAddress (λ row. on_cell (T.width self.old.table) (T.rows self.old.table) row segment tt) self.old.registers.empty }
         ensures registers { self.new.registers ≡ self.old.registers }
-        ensures rows { rows self.new.table ≡ granted result (change_at (written segment word) (rows self.old.table) self.old.registers.empty) (rows self.old.table) }
-        ensures width { width self.new.table ≡ width self.old.table }
-        ensures frame { frame self.old.table self.new.table }
+        ensures rows { T.rows self.new.table ≡ granted result (change_at (written segment word) (T.rows self.old.table) self.old.registers.empty) (T.rows self.old.table) }
+        ensures width { T.width self.new.table ≡ T.width self.old.table }
+        ensures frame { T.frame self.old.table self.new.table }
     {
         match self.registers.empty {
             None => Err(CommandFault::NoEmptyAddress),
@@ -96,11 +96,11 @@ impl<T: Table> Processor<T> {
 
     // Makes the row at the empty address valid; its access mark stays.
     pub fn append(&mut self) -> Result<(), CommandFault>
-        ensures answer { result ≡ at_address NoEmptyAddress (λ row. on_row (rows self.old.table) row tt) self.old.registers.empty }
+        ensures answer { result ≡ at_address NoEmptyAddress (λ row. on_row (T.rows self.old.table) row tt) self.old.registers.empty }
         ensures registers { self.new.registers ≡ self.old.registers }
-        ensures rows { rows self.new.table ≡ granted result (change_at became_valid (rows self.old.table) self.old.registers.empty) (rows self.old.table) }
-        ensures width { width self.new.table ≡ width self.old.table }
-        ensures frame { frame self.old.table self.new.table }
+        ensures rows { T.rows self.new.table ≡ granted result (change_at became_valid (T.rows self.old.table) self.old.registers.empty) (T.rows self.old.table) }
+        ensures width { T.width self.new.table ≡ T.width self.old.table }
+        ensures frame { T.frame self.old.table self.new.table }
     {
         match self.registers.empty {
             None => Err(CommandFault::NoEmptyAddress),
@@ -118,18 +118,18 @@ impl<T: Table> Processor<T> {
 
     pub fn purge(&mut self, kind: Purge)
         ensures registers { self.new.registers ≡ self.old.registers }
-        ensures rows { rows self.new.table ≡ map (purged kind) (rows self.old.table) }
-        ensures width { width self.new.table ≡ width self.old.table }
-        ensures frame { frame self.old.table self.new.table }
+        ensures rows { T.rows self.new.table ≡ map (purged kind) (T.rows self.old.table) }
+        ensures width { T.width self.new.table ≡ T.width self.old.table }
+        ensures frame { T.frame self.old.table self.new.table }
     {
         self.table.purge(kind);
     }
 
     pub fn clear_access(&mut self)
         ensures registers { self.new.registers ≡ self.old.registers }
-        ensures rows { rows self.new.table ≡ map unvisited (rows self.old.table) }
-        ensures width { width self.new.table ≡ width self.old.table }
-        ensures frame { frame self.old.table self.new.table }
+        ensures rows { T.rows self.new.table ≡ map unvisited (T.rows self.old.table) }
+        ensures width { T.width self.new.table ≡ T.width self.old.table }
+        ensures frame { T.frame self.old.table self.new.table }
     {
         self.table.clear_access();
     }
@@ -137,9 +137,9 @@ impl<T: Table> Processor<T> {
     // Empties the table, and makes the registers fresh, the set-up too.
     pub fn reset(&mut self)
         ensures registers { self.new.registers ≡ fresh }
-        ensures rows { rows self.new.table ≡ map vacated (rows self.old.table) }
-        ensures width { width self.new.table ≡ width self.old.table }
-        ensures frame { frame self.old.table self.new.table }
+        ensures rows { T.rows self.new.table ≡ map vacated (T.rows self.old.table) }
+        ensures width { T.width self.new.table ≡ T.width self.old.table }
+        ensures frame { T.frame self.old.table self.new.table }
     {
         self.table.reset();
         self.registers = Registers::fresh();

@@ -13,11 +13,11 @@ use table::{Search, Table};
 impl<T: Table> Processor<T> {
     // Compares every row. The hit address is then the first hit, and the answer.
     pub fn search(&mut self, query: Search) -> Result<Option<u32>, CommandFault>
-        ensures answer { result ≡ command (on_segment (width self.old.table) query.segment (first is_hit (map (searched query) (rows self.old.table)) 0)) }
-        ensures registers { self.new.registers ≡ granted result (with_found (found_in (map (searched query) (rows self.old.table))) self.old.registers) self.old.registers }
-        ensures rows { rows self.new.table ≡ granted result (map (searched query) (rows self.old.table)) (rows self.old.table) }
-        ensures width { width self.new.table ≡ width self.old.table }
-        ensures frame { frame self.old.table self.new.table }
+        ensures answer { result ≡ command (on_segment (T.width self.old.table) query.segment (first is_hit (map (searched query) (T.rows self.old.table)) 0)) }
+        ensures registers { self.new.registers ≡ granted result (with_found (found_in (map (searched query) (T.rows self.old.table))) self.old.registers) self.old.registers }
+        ensures rows { T.rows self.new.table ≡ granted result (map (searched query) (T.rows self.old.table)) (T.rows self.old.table) }
+        ensures width { T.width self.new.table ≡ T.width self.old.table }
+        ensures frame { T.frame self.old.table self.new.table }
     {
         self.table.search(query)?;
         let address = self.table.first_hit(0);
@@ -32,8 +32,8 @@ impl<T: Table> Processor<T> {
 
     // Sets the hit address to the first hit.
     pub fn rewind(&mut self) -> Option<u32>
-        ensures answer { result ≡ first is_hit (rows self.old.table) 0 }
-        ensures registers { self.new.registers ≡ with_found (moved_to (first is_hit (rows self.old.table) 0) self.old.registers.found) self.old.registers }
+        ensures answer { result ≡ first is_hit (T.rows self.old.table) 0 }
+        ensures registers { self.new.registers ≡ with_found (moved_to (first is_hit (T.rows self.old.table) 0) self.old.registers.found) self.old.registers }
         ensures table { self.new.table ≡ self.old.table }
     {
         self.registers.found.address = self.table.first_hit(0);
@@ -42,8 +42,8 @@ impl<T: Table> Processor<T> {
 
     // Sets the hit address to the first hit behind it; none stays none.
     pub fn next_hit(&mut self) -> Option<u32>
-        ensures answer { result ≡ after is_hit (rows self.old.table) self.old.registers.found.address }
-        ensures registers { self.new.registers ≡ with_found (moved_to (after is_hit (rows self.old.table) self.old.registers.found.address) self.old.registers.found) self.old.registers }
+        ensures answer { result ≡ after is_hit (T.rows self.old.table) self.old.registers.found.address }
+        ensures registers { self.new.registers ≡ with_found (moved_to (after is_hit (T.rows self.old.table) self.old.registers.found.address) self.old.registers.found) self.old.registers }
         ensures table { self.new.table ≡ self.old.table }
     {
         self.registers.found.address = self.hit_after(self.registers.found.address);
@@ -52,8 +52,8 @@ impl<T: Table> Processor<T> {
 
     // Sets the empty address to the first empty row.
     pub fn find_empty(&mut self) -> Option<u32>
-        ensures answer { result ≡ first is_empty (rows self.old.table) 0 }
-        ensures registers { self.new.registers ≡ with_empty (first is_empty (rows self.old.table) 0) self.old.registers }
+        ensures answer { result ≡ first is_empty (T.rows self.old.table) 0 }
+        ensures registers { self.new.registers ≡ with_empty (first is_empty (T.rows self.old.table) 0) self.old.registers }
         ensures table { self.new.table ≡ self.old.table }
     {
         self.registers.empty = self.table.first_empty(0);
@@ -62,8 +62,8 @@ impl<T: Table> Processor<T> {
 
     // Sets the empty address to the first empty row behind it; none stays none.
     pub fn next_empty(&mut self) -> Option<u32>
-        ensures answer { result ≡ after is_empty (rows self.old.table) self.old.registers.empty }
-        ensures registers { self.new.registers ≡ with_empty (after is_empty (rows self.old.table) self.old.registers.empty) self.old.registers }
+        ensures answer { result ≡ after is_empty (T.rows self.old.table) self.old.registers.empty }
+        ensures registers { self.new.registers ≡ with_empty (after is_empty (T.rows self.old.table) self.old.registers.empty) self.old.registers }
         ensures table { self.new.table ≡ self.old.table }
     {
         self.registers.empty = self.empty_after(self.registers.empty);
@@ -72,7 +72,7 @@ impl<T: Table> Processor<T> {
 
     // The first hit behind an address.
     fn hit_after(&self, address: Option<u32>) -> Option<u32>
-        ensures answer { result ≡ after is_hit (rows self.now.table) address }
+        ensures answer { result ≡ after is_hit (T.rows self.now.table) address }
     {
         match address {
             None => None,
@@ -82,7 +82,7 @@ impl<T: Table> Processor<T> {
 
     // The first empty row behind an address.
     fn empty_after(&self, address: Option<u32>) -> Option<u32>
-        ensures answer { result ≡ after is_empty (rows self.now.table) address }
+        ensures answer { result ≡ after is_empty (T.rows self.now.table) address }
     {
         match address {
             None => None,

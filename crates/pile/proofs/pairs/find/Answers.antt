@@ -5,18 +5,18 @@ use Rattle.table.proofs.Refusals.{segment-alike}
 use Rattle.table.proofs.Told.{segment-told}
 use Rattle.pile.proofs.pairs.find.Goals as goal
 
-pub returns-in-err-search : goal.returns-in-err-search
-returns-in-err-search g c =
-    let p = err_from_is_err_and c.from-residual.result c.from-residual.ensures.1 in
-    let refused = c.in-err-search.ensures in
+pub returns-in_err-search : goal.returns-in_err-search
+returns-in_err-search g c =
+    let p = err_from_is_err_and c.from_residual.result c.from_residual.ensures.1 in
+    let refused = c.in_err-search.ensures in
     rw (p.1, p.2) (record { answer = segment-alike _ _ _ _ _ refused.answer; rows = refused.rows; width = refused.width; frame = refused.frame })
 
 pub returns : goal.returns
 returns g c =
-    let granted = c.in-ok-search.ensures in
+    let granted = c.in_ok-search.ensures in
     let told = segment-told _ _ _ _ granted.answer in
     record {
-      answer = rw (c.first-hit.ensures.answer, granted.rows) (segment-granted _ _ _ told.0);
+      answer = rw (c.first_hit.ensures.answer, granted.rows) (segment-granted _ _ _ told.0);
       rows = granted.rows;
       width = granted.width;
       frame = granted.frame;

@@ -2,10 +2,10 @@ use Rattle.std.proofs.Common.{refl, arith}
 use Rattle.table.proofs.Checks.{segment-granted, segment-refused}
 use Rattle.cascade.proofs.tables.MemberTable.search.Goals as goal
 
-pub returns-then-query-lt-MAX-WIDTH : goal.returns-then-query-lt-MAX-WIDTH
-returns-then-query-lt-MAX-WIDTH g c =
+pub returns-then-query-lt-MAX_WIDTH : goal.returns-then-query-lt-MAX_WIDTH
+returns-then-query-lt-MAX_WIDTH g c =
     simp c.in-Vacant.is (record { answer = segment-granted _ _ _ (omega arith); rows = refl; width = refl; frame = tt })
 
-pub returns-else-query-lt-MAX-WIDTH : goal.returns-else-query-lt-MAX-WIDTH
-returns-else-query-lt-MAX-WIDTH g c =
+pub returns-else-query-lt-MAX_WIDTH : goal.returns-else-query-lt-MAX_WIDTH
+returns-else-query-lt-MAX_WIDTH g c =
     simp c.in-Vacant.is (record { answer = segment-refused _ _ _ (omega arith); rows = refl; width = refl; frame = tt })

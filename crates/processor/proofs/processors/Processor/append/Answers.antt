@@ -4,13 +4,13 @@ use Rattle.table.specs.Calls.{on_row}
 use Rattle.processor.proofs.Valid.{change-valid}
 use Rattle.processor.proofs.processors.Processor.append.Goals as goal
 
-pub returns-in-err-marks : goal.returns-in-err-marks
+pub returns-in_err-marks-in-Some : goal.returns-in_err-marks-in-Some
 unfolding on_row
-returns-in-err-marks g c = search rules
+returns-in_err-marks-in-Some g c = search rules
 
-pub returns-in-ok-set-marks : goal.returns-in-ok-set-marks
+pub returns-in_ok-set_marks-in-Some : goal.returns-in_ok-set_marks-in-Some
 unfolding on_row
-returns-in-ok-set-marks g c =
-    let e = c.in-ok-marks.ensures in
+returns-in_ok-set_marks-in-Some g c =
+    let e = c.in_ok-marks-in-Some.ensures in
     let v = change-valid (g.T.Table.rows c.args.self.now.table) c.in-Some.row in
     search (rules, change-valid)

@@ -3,9 +3,9 @@ use Rattle.std.proofs.Common.{rules}
 use Rattle.table.specs.Calls.{on_segment}
 use Rattle.processor.proofs.processors.Processor.search.Goals as goal
 
-pub returns-in-err-search : goal.returns-in-err-search
+pub returns-in_err-search : goal.returns-in_err-search
 unfolding on_segment
-returns-in-err-search g c = search rules
+returns-in_err-search g c = search rules
 
 pub returns : goal.returns
 unfolding on_segment
