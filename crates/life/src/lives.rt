@@ -17,9 +17,9 @@ pub fn work<T: Table>(
     processor: &mut Processor<T>,
     calls: &[Call],
 ) -> Result<Vec<Answer>, AllocError>
-    ensures answers { IfOk result (λ v. v.items ≡ replies (state_of width T.rows processor.old.table processor.old.registers) calls.now) }
-    ensures state { state_of width T.rows processor.new.table processor.new.registers ≡ granted result (lived (state_of width T.rows processor.old.table processor.old.registers) calls.now) (state_of width T.rows processor.old.table processor.old.registers) }
-    ensures walks { WalksComplete (state_of width T.rows processor.old.table processor.old.registers) calls.now }
+    ensures answers { IfOk result (λ v. v.items ≡ replies (state_of T.width T.rows processor.old.table processor.old.registers) calls.now) }
+    ensures state { state_of T.width T.rows processor.new.table processor.new.registers ≡ granted result (lived (state_of T.width T.rows processor.old.table processor.old.registers) calls.now) (state_of T.width T.rows processor.old.table processor.old.registers) }
+    ensures walks { WalksComplete (state_of T.width T.rows processor.old.table processor.old.registers) calls.now }
     ensures frame { T.frame processor.old.table processor.new.table }
 {
     let mut answers = Vec::with_capacity(heap, calls.len())?;

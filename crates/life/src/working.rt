@@ -13,9 +13,9 @@ use table::Table;
 
 // Works one call. Its answer, the rows and the registers after it are those of the meaning.
 pub fn perform<T: Table>(processor: &mut Processor<T>, call: Call) -> Answer
-    ensures answer { result ≡ reply_to (state_of width T.rows processor.old.table processor.old.registers) call }
-    ensures rows { T.rows processor.new.table ≡ rows_after (state_of width T.rows processor.old.table processor.old.registers) call }
-    ensures registers { processor.new.registers ≡ regs_after (state_of width T.rows processor.old.table processor.old.registers) call }
+    ensures answer { result ≡ reply_to (state_of T.width T.rows processor.old.table processor.old.registers) call }
+    ensures rows { T.rows processor.new.table ≡ rows_after (state_of T.width T.rows processor.old.table processor.old.registers) call }
+    ensures registers { processor.new.registers ≡ regs_after (state_of T.width T.rows processor.old.table processor.old.registers) call }
     ensures width { T.width processor.new.table ≡ T.width processor.old.table }
     ensures frame { T.frame processor.old.table processor.new.table }
 {
@@ -29,9 +29,9 @@ pub fn perform<T: Table>(processor: &mut Processor<T>, call: Call) -> Answer
 }
 
 fn on_row<T: Table>(processor: &mut Processor<T>, call: RowCall) -> Answer
-    ensures answer { result ≡ row_reply (state_of width T.rows processor.old.table processor.old.registers) call }
-    ensures rows { T.rows processor.new.table ≡ row_rows (state_of width T.rows processor.old.table processor.old.registers) call }
-    ensures registers { processor.new.registers ≡ row_regs (state_of width T.rows processor.old.table processor.old.registers) call }
+    ensures answer { result ≡ row_reply (state_of T.width T.rows processor.old.table processor.old.registers) call }
+    ensures rows { T.rows processor.new.table ≡ row_rows (state_of T.width T.rows processor.old.table processor.old.registers) call }
+    ensures registers { processor.new.registers ≡ row_regs (state_of T.width T.rows processor.old.table processor.old.registers) call }
     ensures width { T.width processor.new.table ≡ T.width processor.old.table }
     ensures frame { T.frame processor.old.table processor.new.table }
 {
@@ -66,9 +66,9 @@ fn on_row<T: Table>(processor: &mut Processor<T>, call: RowCall) -> Answer
 }
 
 fn on_walk<T: Table>(processor: &mut Processor<T>, call: WalkCall) -> Answer
-    ensures answer { result ≡ walk_reply (state_of width T.rows processor.old.table processor.old.registers) call }
+    ensures answer { result ≡ walk_reply (state_of T.width T.rows processor.old.table processor.old.registers) call }
     ensures rows { T.rows processor.new.table ≡ T.rows processor.old.table }
-    ensures registers { processor.new.registers ≡ walk_regs (state_of width T.rows processor.old.table processor.old.registers) call }
+    ensures registers { processor.new.registers ≡ walk_regs (state_of T.width T.rows processor.old.table processor.old.registers) call }
     ensures width { T.width processor.new.table ≡ T.width processor.old.table }
     ensures frame { T.frame processor.old.table processor.new.table }
 {
@@ -82,9 +82,9 @@ fn on_walk<T: Table>(processor: &mut Processor<T>, call: WalkCall) -> Answer
 }
 
 fn on_set_up<T: Table>(processor: &mut Processor<T>, call: SetUpCall) -> Answer
-    ensures answer { result ≡ set_up_reply (state_of width T.rows processor.old.table processor.old.registers) call }
+    ensures answer { result ≡ set_up_reply (state_of T.width T.rows processor.old.table processor.old.registers) call }
     ensures rows { T.rows processor.new.table ≡ T.rows processor.old.table }
-    ensures registers { processor.new.registers ≡ set_up_regs (state_of width T.rows processor.old.table processor.old.registers) call }
+    ensures registers { processor.new.registers ≡ set_up_regs (state_of T.width T.rows processor.old.table processor.old.registers) call }
     ensures width { T.width processor.new.table ≡ T.width processor.old.table }
     ensures frame { T.frame processor.old.table processor.new.table }
 {
@@ -106,9 +106,9 @@ fn on_set_up<T: Table>(processor: &mut Processor<T>, call: SetUpCall) -> Answer
 }
 
 fn on_port<T: Table>(processor: &mut Processor<T>, call: PortCall) -> Answer
-    ensures answer { result ≡ port_reply (state_of width T.rows processor.old.table processor.old.registers) call }
-    ensures rows { T.rows processor.new.table ≡ port_rows (state_of width T.rows processor.old.table processor.old.registers) call }
-    ensures registers { processor.new.registers ≡ port_regs (state_of width T.rows processor.old.table processor.old.registers) call }
+    ensures answer { result ≡ port_reply (state_of T.width T.rows processor.old.table processor.old.registers) call }
+    ensures rows { T.rows processor.new.table ≡ port_rows (state_of T.width T.rows processor.old.table processor.old.registers) call }
+    ensures registers { processor.new.registers ≡ port_regs (state_of T.width T.rows processor.old.table processor.old.registers) call }
     ensures width { T.width processor.new.table ≡ T.width processor.old.table }
     ensures frame { T.frame processor.old.table processor.new.table }
 {

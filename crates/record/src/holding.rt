@@ -42,7 +42,7 @@ fn put_asked<T: Table>(
     line: &[u8],
     ask: Ask,
 ) -> Result<usize, fmt::Error>
-    ensures state { OnOk result (state_of width T.rows processor.new.table processor.new.registers ≡ after_ask (state_of width T.rows processor.old.table processor.old.registers) ask) }
+    ensures state { OnOk result (state_of T.width T.rows processor.new.table processor.new.registers ≡ after_ask (state_of T.width T.rows processor.old.table processor.old.registers) ask) }
 {
     match ask {
         Ask::Call(call) => put_call(out, processor, call),
@@ -61,7 +61,7 @@ fn put_entry<T: Table>(
     text: &[u8],
     entry: &Entry,
 ) -> Result<Verdict, fmt::Error>
-    ensures state { OnOk result (state_of width T.rows processor.new.table processor.new.registers ≡ after_ask (state_of width T.rows processor.old.table processor.old.registers) entry.now.line.ask) }
+    ensures state { OnOk result (state_of T.width T.rows processor.new.table processor.new.registers ≡ after_ask (state_of T.width T.rows processor.old.table processor.old.registers) entry.now.line.ask) }
 {
     let number = entry.number;
     let line = text.get(entry.from..entry.to).unwrap_or(&[]);
@@ -95,8 +95,8 @@ pub fn hold<T: Table>(
     text: &[u8],
     entries: &[Entry],
 ) -> Result<Tally, fmt::Error>
-    ensures state { OnOk result (state_of width T.rows processor.new.table processor.new.registers ≡ lived (state_of width T.rows processor.old.table processor.old.registers) (calls_of entries.now)) }
-    ensures walks { WalksComplete (state_of width T.rows processor.old.table processor.old.registers) (calls_of entries.now) }
+    ensures state { OnOk result (state_of T.width T.rows processor.new.table processor.new.registers ≡ lived (state_of T.width T.rows processor.old.table processor.old.registers) (calls_of entries.now)) }
+    ensures walks { WalksComplete (state_of T.width T.rows processor.old.table processor.old.registers) (calls_of entries.now) }
 {
     let mut tally = Tally {
         asked: 0,

@@ -8,14 +8,14 @@ use Rattle.std.proofs.lemmas.List.{take_all}
 use Rattle.std.proofs.lemmas.Result.{err_from_is_err_and}
 use Rattle.life.proofs.lives.work.Goals as goal
 
-pub returns-in-err-answers : goal.returns-in-err-answers
-returns-in-err-answers g c =
-    let p = err_from_is_err_and c.from-residual.result c.from-residual.ensures.1 in
+pub returns-in_err-answers : goal.returns-in_err-answers
+returns-in_err-answers g c =
+    let p = err_from_is_err_and c.from_residual.result c.from_residual.ensures.1 in
     rw p.1 record { answers = tt; state = refl; walks = walks-complete _ _; frame = g.T.Table.same _ }
 
 pub loop-call-init : goal.loop-call-init
 loop-call-init g c =
-    let made = c.in-ok-answers.ensures in
+    let made = c.in_ok-answers.ensures in
     let t = g.T.Table in
     let p = c.args.processor.now in
     let s = state_of t.width t.rows p.table p.registers in
@@ -32,9 +32,9 @@ loop-call-preserved g c =
     let inv = c.loop-call.invariant in
     let did = c.perform.ensures in (
       omega arith,
-      c.push-reserved.ensures.len ∙ ap (λ n. n + 1) inv.1,
-      rw c.push-reserved.ensures.capacity inv.2,
-      c.push-reserved.ensures.items ∙ ap (λ xs. xs ++ c.perform.result ∷ []) inv.3
+      c.push_reserved.ensures.len ∙ ap (λ n. n + 1) inv.1,
+      rw c.push_reserved.ensures.capacity inv.2,
+      c.push_reserved.ensures.items ∙ ap (λ xs. xs ++ c.perform.result ∷ []) inv.3
           ∙ ap (λ a. replies s (take i cs) ++ a ∷ []) (did.answer ∙ ap (λ st. reply_to st call) inv.4)
           ∙ sym (replies-more s cs i (OnRow (Read 0 0)) c.loop-call-test.true),
       same-state _ (after _ call) did.width did.rows did.registers ∙ ap (λ st. after st call) inv.4

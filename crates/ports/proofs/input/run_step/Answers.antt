@@ -3,9 +3,9 @@ use Rattle.std.proofs.Common.{rules}
 use Rattle.table.specs.Calls.{on_segment}
 use Rattle.ports.proofs.input.run_step.Goals as goal
 
-pub returns-in-err-address : goal.returns-in-err-address
+pub returns-in_err-address : goal.returns-in_err-address
 unfolding on_segment
-returns-in-err-address g c = search rules
+returns-in_err-address g c = search rules
 
 pub returns : goal.returns
 unfolding on_segment

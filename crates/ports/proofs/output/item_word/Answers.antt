@@ -4,5 +4,5 @@ use Rattle.ports.proofs.output.item_word.Goals as goal
 
 pub returns-in-Address-2 : goal.returns-in-Address-2
 returns-in-Address-2 g c =
-    let bits = address-bits c.unwrap-or.result in
+    let bits = address-bits c.unwrap_or.result in
     search (rules, address-bits)

@@ -4,11 +4,11 @@ use Rattle.ports.proofs.Words.{step_bits-lt, step_bits-more}
 use Rattle.ports.specs.Output.{step_bits}
 use Rattle.ports.proofs.output.step_bits.Goals as goal
 
-more : (c : goal.After-bit-at-word) → c.loop-i.word + c.bit-at-word.result ≡ step_bits c.args.hits.now (c.loop-i.i + 1)
-more c = rw (c.loop-i.invariant, c.bit-at-word.ensures.answer) (sym (step_bits-more c.args.hits.now c.loop-i.i))
+more : (c : goal.After-bit_at-word) → c.loop-i.word + c.bit_at-word.result ≡ step_bits c.args.hits.now (c.loop-i.i + 1)
+more c = rw (c.loop-i.invariant, c.bit_at-word.ensures.answer) (sym (step_bits-more c.args.hits.now c.loop-i.i))
 
-pub overflow-add-word : goal.overflow-add-word
-overflow-add-word c =
+pub overflow_add-word : goal.overflow_add-word
+overflow_add-word c =
     let below : 2 ^ (c.loop-i.i + 1) < 2 ^ 32 = pow_below (c.loop-i.i + 1) 32 (omega arith) in
     omega (arith, more c, step_bits-lt c.args.hits.now (c.loop-i.i + 1))
 
