@@ -9,4 +9,4 @@ returns-in-WriteAtEmpty-clause-writes g c =
 
 pub returns-in-ClearAccess-clause-writes : goal.returns-in-ClearAccess-clause-writes
 returns-in-ClearAccess-clause-writes g c =
-    λ plain ok. has_written_of_eq _ _ _ _ _ (ap row_text (sym c.in-ClearAccess.is)) (c.write-str-in-ClearAccess.ensures.writes plain ok)
+    λ plain ok. has_written_of_eq _ _ _ _ _ (ap row_text (sym c.in-ClearAccess.is)) (c.write_str-in-ClearAccess.ensures.writes plain ok)
