@@ -1,4 +1,5 @@
 // Line numbers in a column, and bytes of a listing as they can be shown.
+use std::alloc::AllocError;
 use std::fmt;
 
 // A line's number, right-aligned in six places.
@@ -30,16 +31,14 @@ impl fmt::Display for LineNumber {
 }
 
 // Appends bytes as text; what is no printable character becomes a question mark.
-pub(crate) fn put_bytes(out: &mut String, bytes: &[u8]) -> fmt::Result {
+pub(crate) fn put_bytes(out: &mut String, bytes: &[u8]) -> Result<(), AllocError> {
     for byte in bytes {
         let shown = if byte.is_ascii_graphic() || *byte == b' ' {
             *byte
         } else {
             b'?'
         };
-        if out.push(char::from(shown)).is_err() {
-            return Err(fmt::Error);
-        }
+        out.push(char::from(shown))?;
     }
     Ok(())
 }

@@ -11,8 +11,7 @@ use crate::lists::{put_registers, put_rows};
 use life::{Call, WalkCall};
 use listing::{Ask, Entry};
 use processor::Processor;
-use std::alloc::Global;
-use std::fmt;
+use std::alloc::{AllocError, Global};
 use table::Table;
 
 // How many lines asked something, how many of the listing's answers held, and how many did not.
@@ -41,7 +40,7 @@ fn put_asked<T: Table>(
     processor: &mut Processor<T>,
     line: &[u8],
     ask: Ask,
-) -> Result<usize, fmt::Error>
+) -> Result<usize, AllocError>
     ensures state { OnOk result (state_of T.width T.rows processor.new.table processor.new.registers ≡ after_ask (state_of T.width T.rows processor.old.table processor.old.registers) ask) }
 {
     match ask {
@@ -60,7 +59,7 @@ fn put_entry<T: Table>(
     processor: &mut Processor<T>,
     text: &[u8],
     entry: &Entry,
-) -> Result<Verdict, fmt::Error>
+) -> Result<Verdict, AllocError>
     ensures state { OnOk result (state_of T.width T.rows processor.new.table processor.new.registers ≡ after_ask (state_of T.width T.rows processor.old.table processor.old.registers) entry.now.line.ask) }
 {
     let number = entry.number;
@@ -94,7 +93,7 @@ pub fn hold<T: Table>(
     processor: &mut Processor<T>,
     text: &[u8],
     entries: &[Entry],
-) -> Result<Tally, fmt::Error>
+) -> Result<Tally, AllocError>
     ensures state { OnOk result (state_of T.width T.rows processor.new.table processor.new.registers ≡ lived (state_of T.width T.rows processor.old.table processor.old.registers) (calls_of entries.now)) }
     ensures walks { WalksComplete (state_of T.width T.rows processor.old.table processor.old.registers) (calls_of entries.now) }
 {

@@ -2,10 +2,10 @@
 #![tactic(auto)]
 
 mod columns;
-mod flags;
 mod holding;
 mod lines;
 mod lists;
+mod members;
 mod rows;
 mod same;
 

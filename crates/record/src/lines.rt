@@ -1,6 +1,9 @@
 // One line of a record.
+ghost use Rattle.std.specs.Prelude.{◌≡◌, OnOk};
+ghost use Rattle.life.specs.Meaning.{after, state_of};
+
 use crate::columns::{LineNumber, put_bytes};
-use crate::flags::{put_flags, put_starts, starts};
+use crate::members::{put_flags, put_starts, starts};
 use crate::rows::put_row;
 use crate::same::same_answer;
 use answer_text::AnswerText;
@@ -9,8 +12,7 @@ use life::{Call, perform};
 use listing::{FlagName, RegisterName};
 use processor::Processor;
 use register_text::{Register, ToldText, tell};
-use std::alloc::Global;
-use std::fmt;
+use std::alloc::{AllocError, Global};
 use table::Table;
 
 // What became of a line's own answer.
@@ -21,7 +23,7 @@ pub(crate) enum Verdict {
     Differs,
 }
 
-pub(crate) fn put_number(out: &mut String, number: usize) -> fmt::Result {
+pub(crate) fn put_number(out: &mut String, number: usize) -> Result<(), AllocError> {
     let number = LineNumber(number);
     write!(out, "{number}: ")
 }
@@ -32,7 +34,9 @@ pub(crate) fn put_call<T: Table>(
     out: &mut String,
     processor: &mut Processor<T>,
     call: Call,
-) -> Result<usize, fmt::Error> {
+) -> Result<usize, AllocError>
+    ensures state { OnOk result (state_of T.width T.rows processor.new.table processor.new.registers ≡ after (state_of T.width T.rows processor.old.table processor.old.registers) call) }
+{
     let answer = perform(processor, call);
     write!(out, "{} = ", CallText(call))?;
     let from = out.len();
@@ -44,7 +48,7 @@ pub(crate) fn put_register<T: Table>(
     out: &mut String,
     processor: &Processor<T>,
     register: Register,
-) -> Result<usize, fmt::Error> {
+) -> Result<usize, AllocError> {
     write!(out, "tell {} = ", RegisterName(register))?;
     let from = out.len();
     let told = tell(&processor.registers, register);
@@ -56,7 +60,7 @@ pub(crate) fn put_one_row<T: Table>(
     out: &mut String,
     table: &T,
     row: u32,
-) -> Result<usize, fmt::Error> {
+) -> Result<usize, AllocError> {
     write!(out, "row {row} = ")?;
     let from = out.len();
     put_row(out, table, row)?;
@@ -70,10 +74,8 @@ pub(crate) fn put_members<T: Table>(
     kind: FlagName,
     line: &[u8],
     at: usize,
-) -> Result<usize, fmt::Error> {
-    let Ok(cut) = starts(heap, line, at) else {
-        return Err(fmt::Error);
-    };
+) -> Result<usize, AllocError> {
+    let cut = starts(heap, line, at)?;
     let name = match kind {
         FlagName::Hit => "hit",
         FlagName::Full => "full",
@@ -92,7 +94,7 @@ pub(crate) fn put_verdict(
     number: usize,
     from: usize,
     answer: Option<&[u8]>,
-) -> Result<Verdict, fmt::Error> {
+) -> Result<Verdict, AllocError> {
     let verdict = match (answer, out.as_bytes().get(from..)) {
         (Some(answer), Some(given)) if same_answer(answer, given) => Verdict::Held,
         (Some(_), _) => Verdict::Differs,

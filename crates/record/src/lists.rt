@@ -2,7 +2,7 @@
 use crate::lines::{put_number, put_one_row, put_register};
 use processor::Processor;
 use register_text::Register;
-use std::fmt;
+use std::alloc::AllocError;
 use table::Table;
 
 const ALL: [Register; 45] = [
@@ -57,7 +57,7 @@ pub(crate) fn put_registers<T: Table>(
     out: &mut String,
     processor: &Processor<T>,
     number: usize,
-) -> fmt::Result {
+) -> Result<(), AllocError> {
     for register in ALL {
         put_number(out, number)?;
         put_register(out, processor, register)?;
@@ -73,7 +73,7 @@ pub(crate) fn put_rows<T: Table>(
     number: usize,
     from: u32,
     count: u32,
-) -> fmt::Result {
+) -> Result<(), AllocError> {
     let end = from.saturating_add(count).min(table.shape().depth);
     for row in from..end {
         put_number(out, number)?;

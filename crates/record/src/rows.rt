@@ -2,12 +2,12 @@
 use answer_text::{FaultText, MarksText};
 use life::Fault;
 use processor::CommandFault;
-use std::fmt;
+use std::alloc::AllocError;
 use table::Table;
 use tokens::Hex;
 
 // Appends the marks and the words of a row, or the table's refusal.
-pub(crate) fn put_row<T: Table>(out: &mut String, table: &T, row: u32) -> fmt::Result {
+pub(crate) fn put_row<T: Table>(out: &mut String, table: &T, row: u32) -> Result<(), AllocError> {
     match table.marks(row) {
         Ok(marks) => write!(out, "{}", MarksText(marks))?,
         Err(fault) => {

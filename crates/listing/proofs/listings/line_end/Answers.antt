@@ -4,11 +4,12 @@ use Rattle.listing.specs.Lines.{in_line}
 use Rattle.listing.proofs.listings.line_end.Goals as goal
 
 pub loop-end-preserved : goal.loop-end-preserved
-loop-end-preserved c = omega (arith, prefix_len-drop_yes in_line c.args.text.now c.loop-end.end 0 c.loop-end-test.true ?)
+loop-end-preserved c =
+    omega (arith, prefix_len-drop_yes in_line c.args.text.now c.loop-end.end 0 c.loop-end-test.true (ap not (ne_eqb _ _ c.if-text-end-ne10.true)))
 
 pub returns-else-text-end-ne10 : goal.returns-else-text-end-ne10
 returns-else-text-end-ne10 c = record {
-  answer = omega (arith, prefix_len-drop_no in_line c.args.text.now c.loop-end.end 0 c.loop-end-test.true ?);
+  answer = omega (arith, prefix_len-drop_no in_line c.args.text.now c.loop-end.end 0 c.loop-end-test.true (ap not (eq-eqb _ _ c.if-text-end-ne10.false)));
 }
 
 pub returns-after-loop-end : goal.returns-after-loop-end

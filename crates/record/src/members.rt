@@ -3,7 +3,6 @@ use answer_text::{FlagsFaultText, FullText, HitText};
 use flags::{FullFlag, HitFlag, flags};
 use listing::FlagName;
 use std::alloc::{AllocError, Global};
-use std::fmt;
 use table::Table;
 use tokens::{next_word, number_32};
 
@@ -24,7 +23,7 @@ pub(crate) fn starts(heap: Global, line: &[u8], at: usize) -> Result<Vec<u32>, A
 }
 
 // Appends the starts of a cut, each after a space.
-pub(crate) fn put_starts(out: &mut String, starts: &[u32]) -> fmt::Result {
+pub(crate) fn put_starts(out: &mut String, starts: &[u32]) -> Result<(), AllocError> {
     for start in starts {
         write!(out, " {start}")?;
     }
@@ -36,7 +35,7 @@ fn gap(member: usize) -> &'static str {
     if member == 0 { "" } else { " " }
 }
 
-fn put_hits(out: &mut String, told: &[HitFlag]) -> fmt::Result {
+fn put_hits(out: &mut String, told: &[HitFlag]) -> Result<(), AllocError> {
     for (member, flag) in told.iter().enumerate() {
         let gap = gap(member);
         write!(out, "{gap}{}", HitText(*flag))?;
@@ -44,7 +43,7 @@ fn put_hits(out: &mut String, told: &[HitFlag]) -> fmt::Result {
     Ok(())
 }
 
-fn put_full(out: &mut String, told: &[FullFlag]) -> fmt::Result {
+fn put_full(out: &mut String, told: &[FullFlag]) -> Result<(), AllocError> {
     for (member, flag) in told.iter().enumerate() {
         let gap = gap(member);
         write!(out, "{gap}{}", FullText(*flag))?;
@@ -52,20 +51,26 @@ fn put_full(out: &mut String, told: &[FullFlag]) -> fmt::Result {
     Ok(())
 }
 
-fn hits<T: Table>(heap: Global, out: &mut String, table: &T, cut: &[u32]) -> fmt::Result {
-    let Ok(mut told) = vec![in heap; HitFlag::None; cut.len()] else {
-        return Err(fmt::Error);
-    };
+fn hits<T: Table>(
+    heap: Global,
+    out: &mut String,
+    table: &T,
+    cut: &[u32],
+) -> Result<(), AllocError> {
+    let mut told = vec![in heap; HitFlag::None; cut.len()]?;
     match flags(table, cut, &mut told) {
         Ok(()) => put_hits(out, &told),
         Err(fault) => write!(out, "{}", FlagsFaultText(fault)),
     }
 }
 
-fn full<T: Table>(heap: Global, out: &mut String, table: &T, cut: &[u32]) -> fmt::Result {
-    let Ok(mut told) = vec![in heap; FullFlag::Full; cut.len()] else {
-        return Err(fmt::Error);
-    };
+fn full<T: Table>(
+    heap: Global,
+    out: &mut String,
+    table: &T,
+    cut: &[u32],
+) -> Result<(), AllocError> {
+    let mut told = vec![in heap; FullFlag::Full; cut.len()]?;
     match flags(table, cut, &mut told) {
         Ok(()) => put_full(out, &told),
         Err(fault) => write!(out, "{}", FlagsFaultText(fault)),
@@ -79,7 +84,7 @@ pub(crate) fn put_flags<T: Table>(
     table: &T,
     kind: FlagName,
     cut: &[u32],
-) -> fmt::Result {
+) -> Result<(), AllocError> {
     match kind {
         FlagName::Hit => hits(heap, out, table, cut),
         FlagName::Full => full(heap, out, table, cut),
