@@ -2,7 +2,8 @@
 # Builds the proved table as a library and times its searches beside a version by hand.
 set -e
 cd "$(dirname "$0")/../.."
-rt staticlib planes_runs
+(cd crates/planes_runs_c && rt lib)
 mkdir -p target/bench
-rustc -O --edition 2024 -L target/staticlib -l static=planes_runs -o target/bench/planes bench/planes/searches.rs
+cp crates/planes_runs_c/out/libplanes_runs_c.a target/bench/libplanes_runs.a
+rustc -O --edition 2024 -L target/bench -l static=planes_runs -o target/bench/planes bench/planes/searches.rs
 target/bench/planes

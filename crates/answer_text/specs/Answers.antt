@@ -1,6 +1,6 @@
 -- Places, addresses, marks and a block's answer as text, in bytes. Assumes nothing.
 --   given        a word that stands there only if something is set
-use Rattle.std.specs.Prelude.{ℕ, Bool, cond, List, [], ◌∷◌, ◌++◌, Some, None, codes, decimal, Option}
+use Rattle.std.specs.Prelude.{ℕ, Bool, cond, List, [], ◌++◌, Some, None, codes, decimal, Option}
 use Rattle.ports.specs.declared.input.BlockAnswer.{BlockAnswer}
 use Rattle.ports.specs.declared.input.BlockAnswer.TheVariants.{Ignored, Taken, Searched}
 use Rattle.table.specs.declared.faults.Place.{Place}

@@ -10,8 +10,7 @@ use device::Device;
 use runs::{Run, work};
 
 // One device, of the width given.
-#[unsafe(no_mangle)]
-pub extern "C" fn device_searches(
+pub fn device_searches(
     words: &mut [u32],
     marks: &mut [u8],
     width: u32,
@@ -34,8 +33,7 @@ fn cascade(words: &mut [u32], marks: &mut [u8], devices: u32, run: Run) -> u32 {
     }
 }
 
-#[unsafe(no_mangle)]
-pub extern "C" fn cascade_searches(
+pub fn cascade_searches(
     words: &mut [u32],
     marks: &mut [u8],
     devices: u32,
@@ -45,8 +43,7 @@ pub extern "C" fn cascade_searches(
     cascade(words, marks, devices, Run::Searches { rounds, seed })
 }
 
-#[unsafe(no_mangle)]
-pub extern "C" fn cascade_first_hits(
+pub fn cascade_first_hits(
     words: &mut [u32],
     marks: &mut [u8],
     devices: u32,

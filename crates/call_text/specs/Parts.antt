@@ -1,8 +1,8 @@
 -- What the parts of a call's text say, from a place of a line on. Assumes nothing.
---   after, into    reading goes on with what was read, or ends with the fault
---   flag_at         whether the next word is a flag's name; if not, it is not passed over
---   …Named         what a word says that stands from `start` to `end`
---   …At            what the next words say, and the place behind them
+--   after, into   reading goes on with what was read, or ends with the fault
+--   flag_at       whether the next word is a flag's name; if not, it is not passed over
+--   …_named       what a word says that stands from `start` to `end`
+--   …_at          what the next words say, and the place behind them
 use Rattle.std.specs.Prelude.{ℕ, Bool, true, false, cond, List, Ok, Err, codes, Result}
 use Rattle.registers.specs.declared.setting.InputStep.{InputStep}
 use Rattle.registers.specs.declared.setting.Item.{Item}

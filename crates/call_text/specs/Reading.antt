@@ -1,5 +1,5 @@
 -- The call that stands in a line from a place on. Assumes nothing.
---   …Call       the call whose name w stands from `start` to `at`: one of a group, or of the groups behind it
+--   …_call       the call whose name w stands from `start` to `at`: one of a group, or of the groups behind it
 --   read_call    the call whose name is the next word, and the place behind its last word
 use Rattle.std.specs.Prelude.{ℕ, cond, List, Ok, Err, codes}
 use Rattle.call_text.specs.Parts.{ReadOf, after, input_at, into, marking_at, output_at, purge_at, search_at, two_numbers}

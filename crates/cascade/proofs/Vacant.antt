@@ -1,5 +1,5 @@
 -- What a table with no rows answers. Assumes nothing.
-use Rattle.std.proofs.Common.{◌≡◌, ℕ, Bool, [], None, Err, Option, refl, zero-le}
+use Rattle.std.proofs.Common.{◌≡◌, ℕ, Bool, [], None, Err, refl, zero-le}
 use Rattle.table.proofs.Checks.{cell_row, row-refused}
 use Rattle.table.specs.Calls.{first, on_cell, on_row}
 use Rattle.table.specs.Row.{Row}

@@ -1,6 +1,6 @@
 -- Cascades by halves: k times, two halves are joined. Assumes nothing.
 --   level_width, level_rows   what is built after k times, from what is built for one place
---   Told                    what work on the two halves of a cascade comes to
+--   Told                      what work on the two halves of a cascade comes to
 use Rattle.std.specs.Prelude.{ℕ, zero, suc, ◌-◌, ◌/◌, List, length, take, drop}
 use Rattle.cascade.specs.Seats.{pair_rows, pair_width}
 use Rattle.cascade.specs.declared.plans.Seat.{Seat}

@@ -1,10 +1,10 @@
 -- What a member owes as a table, from what its tables have proved. Assumes nothing.
-use Rattle.std.specs.Prelude.{ℕ, ◌≤◌, List, []}
+use Rattle.std.specs.Prelude.{ℕ, List}
 use Rattle.std.proofs.Common.{lit≤}
 use Rattle.cascade.specs.Members.{FrameOf, rows_of, width_of}
 use Rattle.cascade.specs.declared.members.Member.{Member}
 use Rattle.cascade.specs.declared.members.Member.TheVariants.{Device, Planes, Vacant}
-use Rattle.table.specs.Laws.{Sound, SoundRow}
+use Rattle.table.specs.Laws.{Sound}
 use Rattle.table.specs.Row.{Row}
 
 module _ {D P : Type 0} (width_d : D → ℕ) (width_p : P → ℕ) (rows_d : D → List Row) (rows_p : P → List Row) where

@@ -1,5 +1,5 @@
 -- The first row with a mark, from the mark bytes. Assumes nothing.
-use Rattle.std.proofs.Common.{◌≡◌, ℕ, ◌<◌, ◌≤◌, Bool, true, false, List, length, get_or, Some, None, Option, sym, ap, ◌∙◌, arith}
+use Rattle.std.proofs.Common.{◌≡◌, ℕ, ◌<◌, ◌≤◌, Bool, false, List, get_or, Some, None, Option, ap, ◌∙◌, arith}
 use Rattle.device.specs.Halves.{FirstOf, NoneOf, has_bit}
 use Rattle.device.specs.Layout.{row_in, rows_of}
 use Rattle.device.specs.Proved.Rows.{length-rows, row_at-rows}

@@ -1,7 +1,7 @@
 -- The words of a device after a write, as its owner finds them. Assumes nothing.
 use Rattle.std.proofs.Common.{◌≡◌, ℕ, ◌+◌, ◌*◌, ◌<◌, ◌++◌, get_or, take, drop, set, sym, refl, ap, ◌∙◌, arith}
 use Rattle.device.proofs.Writes.{rows_written}
-use Rattle.device.specs.Layout.{marks_of, rows_of}
+use Rattle.device.specs.Layout.{marks_of}
 use Rattle.device.specs.Proved.Memory.{words_of-rows}
 use Rattle.device.specs.Rows.{Frame, rows_in, words_of}
 use Rattle.device.specs.declared.device.Device.{Device}

@@ -1,10 +1,10 @@
 -- The rows of a device that has just been opened. Assumes nothing.
-use Rattle.std.proofs.Common.{◌≡◌, ℕ, ◌+◌, ◌-◌, ◌*◌, ◌/◌, ◌<◌, ◌≤◌, List, [], length, get_or, take, drop, replicate, sym, refl, ap, ◌∙◌, arith}
-use Rattle.device.specs.Layout.{marks_of, row_in, rows_of}
+use Rattle.std.proofs.Common.{◌≡◌, ℕ, ◌-◌, ◌*◌, ◌<◌, ◌≤◌, List, [], get_or, take, drop, replicate, sym, refl, ap, ◌∙◌, arith}
+use Rattle.device.specs.Layout.{row_in, rows_of}
 use Rattle.device.specs.Proved.Rows.{length-rows, row_at-rows, rows_apart}
 use Rattle.device.specs.Rows.{new_row}
 use Rattle.std.proofs.lemmas.List.{drop-replicate, ext_get_or, get_or-replicate, length-replicate, take-replicate}
-use Rattle.table.specs.Row.{Row, blank}
+use Rattle.table.specs.Row.{blank}
 
 pub rows_none : (ws ms : List ℕ) (k : ℕ) → rows_of ws ms k 0 ≡ []
 unfolding rows_of

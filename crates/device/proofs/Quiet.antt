@@ -3,7 +3,7 @@ use Rattle.std.proofs.Common.{◌≡◌, ℕ, Bool, true, false, cond, not, ◌&
 use Rattle.device.specs.Sweeps.{marks_swept}
 use Rattle.device.specs.declared.sweeps.Sweep.{Sweep}
 use Rattle.device.specs.declared.sweeps.Sweep.TheVariants.{Purge, ClearAccess, Reset}
-use Rattle.table.specs.Row.{agrees, cleared, made_valid, marks_given, marks_searched, marks_written, of_kind}
+use Rattle.table.specs.Row.{cleared, made_valid, marks_given, marks_searched, marks_written, of_kind}
 use Rattle.table.specs.declared.parts.Marking.{Marking}
 use Rattle.table.specs.declared.parts.Marks.{Marks}
 use Rattle.table.specs.declared.parts.Search.{Search}

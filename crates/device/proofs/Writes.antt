@@ -1,5 +1,5 @@
 -- The rows of a device after one word and one mark byte are stored. Assumes nothing.
-use Rattle.std.proofs.Common.{◌≡◌, ℕ, ◌+◌, ◌-◌, ◌*◌, ◌<◌, ◌≤◌, true, false, ◌&&◌, ◌≢◌, ◌⊎◌, List, length, get_or, take, drop, set, sym, refl, ap, ◌∙◌, inl, inr, arith}
+use Rattle.std.proofs.Common.{◌≡◌, ℕ, ◌+◌, ◌-◌, ◌*◌, ◌<◌, ◌≤◌, true, false, ◌&&◌, ◌≢◌, ◌⊎◌, List, length, get_or, take, drop, set, ap, ◌∙◌, inl, inr, arith}
 use lib.Seq.{take-set-lt}
 use Rattle.device.specs.Proved.Marks.{marks_of-byte_of, proper-byte_of}
 use Rattle.device.specs.Proved.Rows.{rows_apart, rows-change}

@@ -1,8 +1,8 @@
 -- How rows lie in words and mark bytes. Assumes nothing.
 --   marks_of, byte_of   a mark byte has bit 7 for empty, bit 6 for access, bit 5 for hit, 0 elsewhere
---   proper            a byte that stands for marks, and not for an empty row with a hit
---   rows_of            the d rows of width k in words ws and mark bytes ms
---   remarked          the first n mark bytes changed by h, which is told the row's number
+--   proper              a byte that stands for marks, and not for an empty row with a hit
+--   rows_of             the d rows of width k in words ws and mark bytes ms
+--   remarked            the first n mark bytes changed by h, which is told the row's number
 use Rattle.std.specs.Prelude.{ℕ, ◌*◌, Bool, cond, not, ◌&&◌, List, ◌++◌, map, take, drop, ◌==◌, bit_and, bit_or, slice_index}
 use Rattle.std.specs.List.{range_with_len}
 use Rattle.table.specs.Row.{Row}

@@ -1,5 +1,5 @@
 -- What an opening checks, and the number and place of its refusals. Assumes nothing.
-use Rattle.std.specs.Prelude.{ℕ, ◌*◌, ◌/◌, Bool, cond, ◌&&◌, Ok, Err, Result, ◌==◌, nat_le}
+use Rattle.std.specs.Prelude.{ℕ, ◌*◌, ◌/◌, cond, ◌&&◌, Ok, Err, Result, ◌==◌, nat_le}
 use Rattle.device.specs.declared.opening.OpenFault.{OpenFault}
 use Rattle.device.specs.declared.opening.OpenFault.TheVariants.{Width, Memory}
 use Rattle.table.specs.declared.faults.Place.{Place}

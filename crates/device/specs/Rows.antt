@@ -1,5 +1,5 @@
 -- A device as a table: its width and rows, and the memory that its owner gets back. Assumes nothing.
-use Rattle.std.specs.Prelude.{◌≡◌, ℕ, ◌*◌, cond, List, [], ◌++◌, map, length, drop, replicate}
+use Rattle.std.specs.Prelude.{◌≡◌, ℕ, ◌*◌, List, [], ◌++◌, map, length, drop, replicate}
 use Rattle.std.specs.Borrow.{MutBor}
 use Rattle.device.specs.Layout.{byte_of, rows_of}
 use Rattle.std.specs.List.{flat_map}

@@ -1,14 +1,12 @@
 -- How each call's meaning goes through a fence. Assumes nothing.
-use Rattle.std.proofs.Common.{◌≡◌, ℕ, ◌+◌, ◌-◌, ◌^◌, ◌<◌, ◌≤◌, min, Bool, ◌⊎◌, List, map, length, drop, Some, None, Ok, Err, Option, Result, sym, refl, ap, ◌∙◌, inl, inr, arith}
+use Rattle.std.proofs.Common.{◌≡◌, ℕ, ◌+◌, ◌-◌, ◌<◌, ◌≤◌, min, Bool, ◌⊎◌, List, map, length, Ok, Err, Option, Result, sym, ◌∙◌, inl, inr, arith}
 use Rattle.std.proofs.lemmas.List.{drop-map, get_or-drop, length-drop}
 use Rattle.std.proofs.lemmas.Bool.{cases_lt}
 use Rattle.std.specs.Option.{option_map}
-use Rattle.table.proofs.Checks.{cell-granted, row-granted, segment-granted}
+use Rattle.table.proofs.Checks.{cell-granted, row-granted}
 use Rattle.table.proofs.Splits.{change-drop, first-drop, first_past}
-use Rattle.table.proofs.Told.{segment-told}
-use Rattle.table.specs.Calls.{change, first, granted, marks_at, on_cell, on_row, on_segment, row_at, word_at}
+use Rattle.table.specs.Calls.{change, first, granted, marks_at, on_cell, on_row, row_at, word_at}
 use Rattle.table.specs.Row.{Row, blank}
-use Rattle.table.specs.declared.faults.TableFault.{TableFault}
 use Rattle.fence.specs.Shown.{shown}
 
 module _ (f : ℕ) (rs : List Row) where

@@ -4,7 +4,6 @@ use Rattle.flags.proofs.Found.{flag-before, flag-found, flag-none, found-passes}
 use Rattle.flags.specs.Kinds.{full_from}
 use Rattle.flags.specs.Laws.{between}
 use Rattle.flags.specs.Proved.{full-laws}
-use Rattle.flags.specs.declared.full.FullFlag.{FullFlag}
 use Rattle.flags.specs.declared.full.FullFlag.TheVariants.{Full, EmptyAt}
 use Rattle.table.specs.Calls.{first, row_at}
 use Rattle.table.specs.Row.{Row, is_empty}

@@ -1,8 +1,8 @@
 -- The flag handed on from member to member. Assumes nothing.
-use Rattle.std.proofs.Common.{◌≡◌, ℕ, zero, suc, ◌+◌, ◌-◌, ◌<◌, ◌≤◌, List, [], ◌∷◌, ◌++◌, map, length, get_or, take, drop, set, sym, refl, ap, ◌∙◌, add-one, arith}
+use Rattle.std.proofs.Common.{◌≡◌, ℕ, zero, suc, ◌+◌, ◌<◌, ◌≤◌, List, [], ◌∷◌, ◌++◌, map, length, get_or, take, drop, set, sym, refl, ap, ◌∙◌, add-one, arith}
 use native.Mathlib.Nat.{sub-zero}
 use Rattle.flags.proofs.Parts.{flag-next}
-use Rattle.flags.specs.Cuts.{Cut, Running, end_of, flag_up_to, own_flag, running_flag}
+use Rattle.flags.specs.Cuts.{Cut, Running, end_of, flag_up_to, own_flag}
 use Rattle.flags.specs.Laws.{Lasting, Laws, between}
 use Rattle.flags.specs.declared.kinds.Part.{Part}
 use Rattle.std.proofs.lemmas.List.FromFn.{length-map-range_with_len, map-range_with_len_more}

@@ -1,5 +1,5 @@
 -- The hit flag of rows, from the first hits that a table names. Assumes nothing.
-use Rattle.std.proofs.Common.{◌≡◌, ℕ, suc, ◌+◌, ◌<◌, ◌≤◌, true, false, List, ◌∷◌, Some, None, refl, ap, ◌∙◌, add-one, arith}
+use Rattle.std.proofs.Common.{◌≡◌, ℕ, suc, ◌+◌, ◌<◌, ◌≤◌, true, false, List, ◌∷◌, Some, None, refl, ap, ◌∙◌, add-one}
 use Rattle.flags.proofs.Found.{flag-before, flag-found, flag-none, found-passes}
 use Rattle.flags.specs.Kinds.{hit_then, hits_from}
 use Rattle.flags.specs.Laws.{between}

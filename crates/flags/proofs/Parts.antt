@@ -1,5 +1,5 @@
 -- The flag of rows is joined from those of its parts: the one use of a kind's laws. Assumes nothing.
-use Rattle.std.proofs.Common.{◌≡◌, ℕ, suc, ◌+◌, ◌-◌, ◌<◌, ◌≤◌, List, ◌∷◌, ◌++◌, length, take, drop, sym, ap, ◌∙◌, arith, take-add}
+use Rattle.std.proofs.Common.{◌≡◌, ℕ, suc, ◌+◌, ◌-◌, ◌<◌, ◌≤◌, List, ◌∷◌, ◌++◌, length, take, drop, ap, ◌∙◌, arith, take-add}
 use Rattle.flags.specs.Laws.{Laws, between}
 use Rattle.std.proofs.lemmas.List.{drop-drop, drop_more, length-drop, length-take}
 use Rattle.table.specs.Calls.{row_at}

@@ -1,5 +1,5 @@
 -- The flags of all rows, from the first rows that a table would name. Assumes nothing.
-use Rattle.std.proofs.Common.{◌≡◌, ℕ, ◌+◌, ◌<◌, Bool, List, length, take, Some, None, Option, sym, refl, ap, ◌∙◌, subst, arith}
+use Rattle.std.proofs.Common.{◌≡◌, ℕ, ◌+◌, ◌<◌, Bool, List, length, Some, None, Option, sym, refl, ap, ◌∙◌, subst, arith}
 use native.Mathlib.Nat.{sub-zero}
 use Rattle.flags.proofs.Empties.{full-empty, full-none}
 use Rattle.flags.proofs.Hits.{hits-none, hits-one, hits-several}

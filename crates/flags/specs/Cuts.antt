@@ -1,12 +1,12 @@
 -- Cuts of a table into members, and the flag that each member hands on. Assumes nothing.
---   end_of        where member i of a cut ends: before the next start, or at the depth
---   obeys        whether the start of member i keeps the rule of a cut
---   first_break   the first of the n starts from number i on that breaks the rule, or none
---   checked_cut   what the flags call answers: the length of its output is checked before the cut
+--   end_of         where member i of a cut ends: before the next start, or at the depth
+--   obeys          whether the start of member i keeps the rule of a cut
+--   first_break    the first of the n starts from number i on that breaks the rule, or none
+--   checked_cut    what the flags call answers: the length of its output is checked before the cut
 --   flag_up_to     the flag of all rows from 0 up to the end of member i
 --   flags_so_far   that flag, for each member
---   own_flag      the flag of the rows of member i alone
---   running_flag  the running flag before it, at first nothing, joined with the member's own
+--   own_flag       the flag of the rows of member i alone
+--   running_flag   the running flag before it, at first nothing, joined with the member's own
 use Rattle.std.specs.Prelude.{◌≡◌, ℕ, zero, suc, ◌+◌, ◌-◌, ◌<◌, ◌≤◌, Bool, cond, ◌&&◌, List, map, length, get_or, take, Some, None, Ok, Err, Option, Result, ◌==◌, nat_le, slice_index, slice_index_or}
 use Rattle.flags.specs.declared.faults.FlagsFault.{FlagsFault}
 use Rattle.flags.specs.declared.faults.FlagsFault.TheVariants.{Length, Starts, Start}

@@ -1,7 +1,7 @@
 -- What the two flags of all rows say, in the words of a table's questions. Assumes nothing.
 --   hits_are    none, the first hit if no other follows it, or several from the first hit
 --   empty_is    full, or the first empty row
-use Rattle.std.specs.Prelude.{◌≡◌, ℕ, ◌+◌, cond, List, Some, None, Option}
+use Rattle.std.specs.Prelude.{◌≡◌, ℕ, ◌+◌, List, Some, None, Option}
 use Rattle.flags.specs.declared.full.FullFlag.{FullFlag}
 use Rattle.flags.specs.declared.full.FullFlag.TheVariants.{Full, EmptyAt}
 use Rattle.flags.specs.declared.hit.HitFlag.{HitFlag}

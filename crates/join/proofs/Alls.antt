@@ -1,6 +1,6 @@
 -- The rows of a join after a call that changes every row. v and x are the widths of the upper and the
 -- lower table. Assumes nothing.
-use Rattle.std.proofs.Common.{◌≡◌, ℕ, ◌<◌, ◌≤◌, min, List, map, Ok, Err, Result, sym, ◌∙◌, arith}
+use Rattle.std.proofs.Common.{◌≡◌, ℕ, ◌<◌, min, List, map, Ok, Err, Result, sym, ◌∙◌, arith}
 use Rattle.table.proofs.Checks.{segment-granted}
 use Rattle.table.specs.Calls.{granted, on_segment}
 use Rattle.table.specs.Row.{Row}

@@ -1,9 +1,9 @@
 -- A row function does the same before a row is cut and after it, if it looks at no segment that is
 -- cut away. Assumes nothing.
-use Rattle.std.proofs.Common.{◌≡◌, ℕ, ◌<◌, take, sym, refl}
+use Rattle.std.proofs.Common.{◌≡◌, ℕ, ◌<◌, refl}
 use lib.Seq.{take-set-lt}
 use Rattle.std.proofs.lemmas.List.{get_or-take}
-use Rattle.table.specs.Row.{Row, is_empty, is_hit, marked, purged, searched, unvisited, vacated, word_in, written}
+use Rattle.table.specs.Row.{Row, marked, purged, searched, unvisited, vacated, word_in, written}
 use Rattle.table.specs.declared.parts.Marking.{Marking}
 use Rattle.table.specs.declared.parts.Purge.{Purge}
 use Rattle.table.specs.declared.parts.Search.{Search}

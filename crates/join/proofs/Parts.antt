@@ -1,10 +1,10 @@
 -- How the rows of a join stand to those of its two tables, as each call changes them. Assumes nothing.
-use Rattle.std.proofs.Common.{◌≡◌, ℕ, ◌+◌, ◌-◌, ◌<◌, ◌≤◌, min, List, [], ◌∷◌, ◌++◌, map, length, take, sym, refl, ap, ◌∙◌, arith}
+use Rattle.std.proofs.Common.{◌≡◌, ℕ, ◌+◌, ◌-◌, ◌<◌, ◌≤◌, min, List, [], ◌∷◌, ◌++◌, map, length, take, refl, ap, ◌∙◌, arith}
 use Rattle.std.proofs.lemmas.List.{get_or_append_left, get_or-append_right, get_or-map, get_or-take, length-append, length-map, length-take, map-append, take-map}
 use Rattle.table.proofs.Splits.{change-append-left, change-append-right, change-map, change-take}
-use Rattle.table.specs.Calls.{change, row_at, word_at}
+use Rattle.table.specs.Calls.{change, row_at}
 use Rattle.table.specs.Row.{Row, blank}
-use Rattle.join.proofs.Cuts.{Even, word_in-cut}
+use Rattle.join.proofs.Cuts.{Even}
 use Rattle.join.specs.Joined.{cut_row, join_rows}
 
 -- two functions of a row may go in either order

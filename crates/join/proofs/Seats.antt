@@ -3,7 +3,7 @@
 -- Assumes nothing.
 --   InUpper r k   row r of the join is row k of the upper table
 --   InLower r k   row r of the join is row k of the lower table
-use Rattle.std.proofs.Common.{◌≡◌, ℕ, ◌+◌, ◌-◌, ◌<◌, ◌≤◌, min, List, length, Ok, Err, Result, sym, refl, ap, ◌∙◌, arith}
+use Rattle.std.proofs.Common.{◌≡◌, ℕ, ◌-◌, ◌<◌, ◌≤◌, min, List, length, Ok, Err, Result, sym, refl, ap, ◌∙◌, arith}
 use Rattle.std.proofs.lemmas.Bool.Decides.{nat_tests}
 use Rattle.table.proofs.Checks.{cell-granted, row-granted}
 use Rattle.table.proofs.Told.{cell-told, row_told}
@@ -11,7 +11,7 @@ use Rattle.table.specs.Calls.{change, granted, marks_at, on_cell, on_row, row_at
 use Rattle.table.specs.Row.{Row, word_in}
 use Rattle.join.proofs.Cuts.{Even, word_in-cut}
 use Rattle.join.proofs.Parts.{change-lower, change-upper, length-join, row_at-lower, row_at-upper}
-use Rattle.join.specs.Joined.{cut_row, join_rows, seat_of}
+use Rattle.join.specs.Joined.{join_rows, seat_of}
 use Rattle.join.specs.declared.joins.Seat.{Seat}
 use Rattle.join.specs.declared.joins.Seat.TheVariants.{Upper, Lower}
 

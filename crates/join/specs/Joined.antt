@@ -2,9 +2,9 @@
 --   cut_row     a row with its first w words only; its marks stay
 --   join_rows   the upper rows, then the lower rows, each cut to w words, and the first n of them
 --   joined_width, joined_rows
---              a join's width and rows, from what the widths and the rows of the two kinds of table are
+--               a join's width and rows, from what the widths and the rows of the two kinds of table are
 --   seat_of     the table that holds row r, and r's number there, if the upper has d rows
---   within     a row's number if it is below n, else none
+--   within      a row's number if it is below n, else none
 use Rattle.std.specs.Prelude.{ℕ, ◌-◌, min, cond, List, ◌++◌, map, take, Some, None, Option, nat_lt}
 use Rattle.table.specs.Row.{Row}
 use Rattle.join.specs.declared.joins.Join.{Join}

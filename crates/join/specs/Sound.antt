@@ -1,9 +1,8 @@
 -- The rows of a join are sound if those of its tables are. Assumes nothing.
-use Rattle.std.specs.Prelude.{◌≡◌, ℕ, ◌≤◌, min, List, ◌++◌, map, length, take}
+use Rattle.std.specs.Prelude.{ℕ, ◌≤◌, min, List, ◌++◌, map}
 use Rattle.std.proofs.Common.{arith}
 use Rattle.std.proofs.ByRecursion.{All-append, All-map, All-take, All-weaker}
 use Rattle.std.proofs.lemmas.List.{length-take, length-take-le}
-use Rattle.std.specs.List.{AllByRecursion as All}
 use Rattle.table.specs.Laws.{Sound, SoundRow}
 use Rattle.table.specs.Row.{Row}
 use Rattle.join.specs.Joined.{cut_row, join_rows}

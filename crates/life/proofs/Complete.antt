@@ -1,6 +1,6 @@
 -- Walks are complete in every life. Assumes nothing.
 --   Good   what holds at a place: in a group the hit marks tell what matched, and the address is named
-use Rattle.std.proofs.Common.{◌≡◌, ℕ, zero, suc, ◌+◌, ◌<◌, ◌≤◌, Bool, true, false, cond, ◌⊎◌, List, [], ◌∷◌, ◌++◌, map, length, take, Some, None, Option, sym, refl, ap, ◌∙◌, subst, inl, inr}
+use Rattle.std.proofs.Common.{◌≡◌, ℕ, ◌+◌, Bool, true, false, cond, ◌⊎◌, List, [], ◌∷◌, ◌++◌, map, take, Some, None, Option, refl, inl, inr}
 use Rattle.life.proofs.Counts.{lowest-first, lowest-next, lowest-none}
 use Rattle.life.proofs.Effects.{Does, address, effect}
 use Rattle.life.proofs.Groups.{Stands, least-matched, stands-head, stands-next, stands-unvisited}

@@ -1,5 +1,5 @@
 -- No call changes how many rows there are. Assumes nothing.
-use Rattle.std.proofs.Common.{◌≡◌, ℕ, List, [], ◌∷◌, map, length, Some, None, Ok, Err, Option, Result, refl, ◌∙◌}
+use Rattle.std.proofs.Common.{◌≡◌, ℕ, List, [], ◌∷◌, length, Some, None, Ok, Err, Option, Result, refl, ◌∙◌}
 use Rattle.life.specs.Meaning.{State, after, block_result, cell, cell_at_empty, cell_at_hit, line, line_at_empty, lived, search_result}
 use Rattle.life.specs.declared.calls.Call.{Call}
 use Rattle.life.specs.declared.calls.Call.TheVariants.{OnRow, Search as SearchFor, OnWalk, OnSetUp, OnPort}

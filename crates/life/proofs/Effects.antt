@@ -1,6 +1,6 @@
 -- What each call does to the rows and to the hit address, by its event. Assumes nothing.
 use Rattle.std.proofs.Common.{◌≡◌, ℕ, ◌^◌, Bool, true, false, cond, ltb, ◌⊎◌, List, map, Some, None, Ok, Err, Option, Result, refl, inl, inr}
-use Rattle.life.specs.Meaning.{State, after, block_result, cell, cell_at_empty, cell_at_hit, line, line_at_empty, search_result, word_result}
+use Rattle.life.specs.Meaning.{State, after, cell, cell_at_empty, cell_at_hit, line, line_at_empty, search_result, word_result}
 use Rattle.life.specs.Walks.{Event, changes, event_of, if_any, moves, neither, rewinds, searches}
 use Rattle.life.specs.declared.calls.Call.{Call}
 use Rattle.life.specs.declared.calls.Call.TheVariants.{OnRow, Search as SearchFor, OnWalk, OnSetUp, OnPort}
@@ -13,7 +13,7 @@ use Rattle.life.specs.declared.calls.SetUpCall.TheVariants.{InputStep, OutputSte
 use Rattle.life.specs.declared.calls.WalkCall.{WalkCall}
 use Rattle.life.specs.declared.calls.WalkCall.TheVariants.{Rewind, NextHit, FindEmpty, NextEmpty, Registers as TellRegisters}
 use Rattle.ports.specs.Blocks.{bits_of}
-use Rattle.ports.specs.Input.{asked, block_answer, block_asks, block_left, filled, open_asks, ran, runs, step_answer, step_at, step_left, taken_input}
+use Rattle.ports.specs.Input.{asked, block_answer, block_asks, block_left, filled, ran, runs, step_answer, step_at, step_left, taken_input}
 use Rattle.ports.specs.Output.{output_step_at, word_following, word_left}
 use Rattle.ports.specs.declared.faults.PortFault.{PortFault}
 use Rattle.ports.specs.declared.faults.PortFault.TheVariants.{TooWide, BlocksGone}

@@ -1,7 +1,6 @@
 -- One call more in a life. Assumes nothing.
-use Rattle.std.proofs.Common.{◌≡◌, ℕ, ◌+◌, ◌<◌, List, [], ◌∷◌, ◌++◌, length, get_or, take, sym, refl, ap, ◌∙◌}
-use Rattle.life.specs.Meaning.{State, after, lived, regs_after, replies, reply_to, rows_after}
-use Rattle.life.specs.declared.calls.Answer.{Answer}
+use Rattle.std.proofs.Common.{◌≡◌, ℕ, ◌+◌, ◌<◌, List, [], ◌∷◌, ◌++◌, length, get_or, take, refl, ap, ◌∙◌}
+use Rattle.life.specs.Meaning.{State, after, lived, replies, reply_to}
 use Rattle.life.specs.declared.calls.Call.{Call}
 use Rattle.registers.specs.declared.state.Registers.{Registers}
 use Rattle.std.proofs.lemmas.List.{take_more}

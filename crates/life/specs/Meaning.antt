@@ -1,10 +1,10 @@
 -- What each call of a processor answers and leaves, from the state before it. Assumes nothing.
---   State            a table's width and rows, and the registers beside it
---   told             an answer, or the refusal of a layer
---   …Reply           the answer of a call of a group
---   …Rows, …Regs     the rows and the registers after it
+--   State             a table's width and rows, and the registers beside it
+--   told              an answer, or the refusal of a layer
+--   …_reply           the answer of a call of a group
+--   …_rows, …_regs    the rows and the registers after it
 --   reply_to, after   the same of any call
---   lived, replies   the state after a list of calls, and the answers to them
+--   lived, replies    the state after a list of calls, and the answers to them
 use Rattle.std.specs.Prelude.{ℕ, List, [], ◌∷◌, map, Ok, Err, Option, Result}
 use Rattle.life.specs.declared.calls.Answer.{Answer}
 use Rattle.life.specs.declared.calls.Answer.TheVariants.{Done, Word as TheWord, Marks as TheMarks, Address, Registers as TheRegisters, Block as TheBlock, Refused}

@@ -1,7 +1,7 @@
 -- The bits of a number. Assumes nothing.
---   bit_of n k      bit k of n is set
---   number_of f n   the number of n bits whose bit k is f k
---   with_bit k b n  the number of 64 bits with the bits of n, but b at place k
+--   bit_of n k          bit k of n is set
+--   number_of f n       the number of n bits whose bit k is f k
+--   with_bit k b n      the number of 64 bits with the bits of n, but b at place k
 --   FirstBit n from r   r names the smallest place of a 64-bit number, from or later, whose bit is set
 use Rattle.std.specs.Prelude.{◌≡◌, ℕ, zero, suc, ◌+◌, ◌/◌, ◌%◌, ◌^◌, ◌<◌, ◌≤◌, Bool, true, false, cond, Some, None, Option, ◌==◌}
 

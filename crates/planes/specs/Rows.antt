@@ -1,11 +1,11 @@
 -- The rows that the memory holds, and the memory that rows lay out. Assumes nothing.
---   word_of m s r   the word of row r in segment s, put together from 32 planes
---   row_of, rows_of  a row of the memory, and all 64
---   column p rs    the 64-bit number whose bit r says whether row r passes p
---   memory_of rs    the memory that holds these rows, and no other
---   Laid m         the memory is the one that its rows lay out: nothing else is in it
---   Quiet e h      an empty row never has the hit mark
---   opened         the memory after a reset, with every word 0
+--   word_of m s r     the word of row r in segment s, put together from 32 planes
+--   row_of, rows_of   a row of the memory, and all 64
+--   column p rs       the 64-bit number whose bit r says whether row r passes p
+--   memory_of rs      the memory that holds these rows, and no other
+--   Laid m            the memory is the one that its rows lay out: nothing else is in it
+--   Quiet e h         an empty row never has the hit mark
+--   opened            the memory after a reset, with every word 0
 use Rattle.std.specs.Prelude.{◌≡◌, ℕ, ◌+◌, ◌-◌, ◌*◌, ◌/◌, ◌%◌, ◌^◌, ◌<◌, Bool, false, cond, ◌&&◌, List, [], ◌∷◌, map, length, replicate, ◌==◌, slice_index}
 use Rattle.std.specs.List.{range_with_len}
 use Rattle.table.specs.Calls.{row_at}

@@ -26,8 +26,7 @@ fn filled(seed: u32) -> Planes {
 }
 
 // Searches `rounds` times and mixes the first hits into one number.
-#[unsafe(no_mangle)]
-pub extern "C" fn planes_searches(rounds: u32, seed: u32) -> u32 {
+pub fn planes_searches(rounds: u32, seed: u32) -> u32 {
     let mut table = filled(seed);
     let mut n = seed;
     let mut mixed = 0u32;

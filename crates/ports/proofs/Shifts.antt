@@ -1,5 +1,5 @@
 -- A word moved up, with other bits put in below. Assumes nothing.
-use Rattle.std.proofs.Common.{◌≡◌, ℕ, ◌+◌, ◌*◌, ◌/◌, ◌%◌, ◌^◌, ◌<◌, refl, ap, ◌∙◌, add-zero}
+use Rattle.std.proofs.Common.{◌≡◌, ℕ, ◌+◌, ◌*◌, ◌%◌, ◌^◌, ◌<◌, refl, ◌∙◌, add-zero}
 use native.Mathlib.Nat.{mul-mod_left}
 use lib.Bits.{bit_or}
 use Rattle.std.proofs.lemmas.Nat.{mod-pow-add, or_shifted, shl-shr}

@@ -1,7 +1,7 @@
 -- The buffers that blocks go into, and the keys that are cut from them. Assumes nothing.
 --   low n, high n   the lower and the upper n bits of a word
 --   joined a n b    a followed by the n bits b
---   bit_of           whether bit b of a number is set
+--   bit_of          whether bit b of a number is set
 use Rattle.std.specs.Prelude.{◌≡◌, ℕ, ◌+◌, ◌-◌, ◌*◌, ◌/◌, ◌%◌, ◌^◌, Bool, ◌==◌}
 use Rattle.registers.specs.declared.setting.BlockWidth.{BlockWidth}
 use Rattle.registers.specs.declared.setting.BlockWidth.TheVariants.{Eight, Sixteen, ThirtyTwo}

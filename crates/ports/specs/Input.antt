@@ -1,10 +1,10 @@
 -- What a block that comes into the input port answers and leaves. Assumes nothing.
---   step_at        the input step that is next
---   filled        the buffers once the block has come in, if its take bit is set
---   asked         the search of a step, its key cut from the buffers
---   asks          the search that a block runs, if it runs one
---   …Answer, …Left   the answer, and the registers after a block that was not refused
-use Rattle.std.specs.Prelude.{ℕ, ◌+◌, ◌^◌, Bool, cond, List, map, set, Some, None, Ok, Err, Option, Result, nat_lt, slice_set}
+--   step_at            the input step that is next
+--   filled             the buffers once the block has come in, if its take bit is set
+--   asked              the search of a step, its key cut from the buffers
+--   asks               the search that a block runs, if it runs one
+--   …_answer, …_left   the answer, and the registers after a block that was not refused
+use Rattle.std.specs.Prelude.{ℕ, ◌+◌, ◌^◌, Bool, cond, List, map, Some, None, Ok, Err, Option, Result, nat_lt, slice_set}
 use Rattle.ports.specs.Blocks.{bit_of, bits_of, key_at, shifted_in}
 use Rattle.ports.specs.Faults.{at_step}
 use Rattle.ports.specs.declared.faults.PortFault.{PortFault}

@@ -1,5 +1,5 @@
 -- What the processor's calls on rows answer and leave, from the table's width and rows. Assumes nothing.
---   command       a table's answer as the processor's; a refusal is handed on whole
+--   command        a table's answer as the processor's; a refusal is handed on whole
 --   at_address     the answer of a command at an address: without one it refuses
 --   change_at      the rows after a change at an address
 --   became_valid   a row after an append

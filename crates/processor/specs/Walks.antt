@@ -1,7 +1,7 @@
 -- What searches and walks leave in the registers, from the rows. Assumes nothing.
---   after       the first row behind an address that passes a test; behind none there is none
---   found_in     what a search has found once it left these rows
---   moved_to     the same, with another hit address
+--   after                    the first row behind an address that passes a test; behind none there is none
+--   found_in                 what a search has found once it left these rows
+--   moved_to                 the same, with another hit address
 --   with_found, with_empty   the registers with what was found, or with the empty address, replaced
 use Rattle.std.specs.Prelude.{ℕ, ◌+◌, Bool, List, is_some, Some, None, Option}
 use Rattle.registers.specs.declared.state.Found.{Found}

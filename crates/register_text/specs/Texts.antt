@@ -1,5 +1,5 @@
 -- The text of what a register holds, as bytes. Assumes nothing.
-use Rattle.std.specs.Prelude.{ℕ, Bool, false, cond, List, [], ◌++◌, codes, decimal, slice_index, slice_index_or}
+use Rattle.std.specs.Prelude.{ℕ, Bool, false, cond, List, ◌++◌, codes, decimal, slice_index, slice_index_or}
 use Rattle.answer_text.specs.Answers.{given}
 use Rattle.registers.specs.declared.setting.BlockWidth.{BlockWidth}
 use Rattle.registers.specs.declared.setting.BlockWidth.TheVariants.{Eight, Sixteen, ThirtyTwo}

@@ -1,10 +1,10 @@
 -- What a set-up call answers and leaves. Assumes nothing.
---   within         a number is checked against its limit before the rest
---   closed         the answer while no sequence, or an open one, stands against it
---   numbered       the channel of a number
---   channel_of      the set-up of a channel
---   …Checked       the answer of a set-up call: its numbers in order, then the port's sequence
---   …Set           the registers after a set-up call that was granted
+--   within       a number is checked against its limit before the rest
+--   closed       the answer while no sequence, or an open one, stands against it
+--   numbered     the channel of a number
+--   channel_of   the set-up of a channel
+--   …_checked    the answer of a set-up call: its numbers in order, then the port's sequence
+--   …_set        the registers after a set-up call that was granted
 use Rattle.std.specs.Prelude.{ℕ, Bool, true, false, cond, ◌||◌, Ok, Err, Result, ◌==◌, nat_lt, slice_set}
 use Rattle.registers.specs.declared.faults.SetUpFault.{SetUpFault}
 use Rattle.registers.specs.declared.faults.SetUpFault.TheVariants.{OutOfRange, SequenceOpen}

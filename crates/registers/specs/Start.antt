@@ -1,6 +1,6 @@
 -- What starting and stopping a port answers and leaves. Assumes nothing.
 --   some_ends       some step, the n-th or a later one, has the end flag
-use Rattle.std.specs.Prelude.{ℕ, zero, suc, Bool, true, false, cond, ◌||◌, List, [], ◌∷◌, replicate, Ok, Err, Result, slice_index_or}
+use Rattle.std.specs.Prelude.{ℕ, zero, suc, Bool, false, cond, ◌||◌, List, [], ◌∷◌, replicate, Ok, Err, Result, slice_index_or}
 use Rattle.registers.specs.Fresh.{empty_buffers, fresh_input_step, fresh_output_step}
 use Rattle.registers.specs.Setting.{channel_of, numbered, within}
 use Rattle.registers.specs.declared.faults.StartFault.{StartFault}
@@ -9,7 +9,6 @@ use Rattle.registers.specs.declared.setting.ChannelSetUp.{ChannelSetUp}
 use Rattle.registers.specs.declared.setting.InputStep.{InputStep}
 use Rattle.registers.specs.declared.setting.OutputStep.{OutputStep}
 use Rattle.registers.specs.declared.state.Input.{Input}
-use Rattle.registers.specs.declared.state.InputPlace.{InputPlace}
 use Rattle.registers.specs.declared.state.OutputPlace.{OutputPlace}
 use Rattle.registers.specs.declared.state.Registers.{Registers}
 use Rattle.registers.specs.declared.state.Sequence.{Sequence}

@@ -8,7 +8,7 @@ use Rattle.flags.specs.Kinds.{full_from, hits_from}
 use Rattle.flags.specs.declared.full.FullFlag.TheVariants.{EmptyAt}
 use Rattle.flags.specs.declared.hit.HitFlag.TheVariants.{Several}
 use Rattle.join.specs.Joined.{join_rows}
-use Rattle.life.specs.Meaning.{State, replies}
+use Rattle.life.specs.Meaning.{replies}
 use Rattle.life.specs.declared.calls.Answer.TheVariants.{Address}
 use Rattle.life.specs.declared.calls.Call.{Call}
 use Rattle.life.specs.declared.calls.Call.TheVariants.{Search as SearchFor, OnWalk}

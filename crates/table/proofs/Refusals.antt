@@ -1,5 +1,5 @@
 -- A refusal does not depend on what would have been answered. Assumes nothing.
-use Rattle.std.proofs.Common.{◌≡◌, ℕ, Bool, true, false, cond, ltb, List, length, Ok, Err, Result, ap, arith}
+use Rattle.std.proofs.Common.{◌≡◌, ℕ, Bool, true, false, cond, ltb, List, length, Ok, Err, ap, arith}
 use Rattle.table.specs.Calls.{on_cell, on_row, on_segment}
 use Rattle.table.specs.Row.{Row}
 use Rattle.table.specs.declared.faults.TableFault.{TableFault}

@@ -1,9 +1,9 @@
 -- What the calls of a table answer, on its width and its list of rows. Assumes nothing.
 --   on_row, on_segment, on_cell   the answer of a call that names a row, a segment, or both: the row is
---                              checked first; a refusal names what was asked for
---   granted                    what is there after a call: the new if it was granted, else the old
---   change                     one row of the list changed
---   first                      the smallest row, n or later, that passes a test, or none
+--                                 checked first; a refusal names what was asked for
+--   granted                       what is there after a call: the new if it was granted, else the old
+--   change                        one row of the list changed
+--   first                         the smallest row, n or later, that passes a test, or none
 use Rattle.std.specs.Prelude.{ℕ, zero, suc, Bool, cond, List, [], ◌∷◌, length, Some, None, Ok, Err, Option, Result, nat_lt, slice_index_or, slice_set}
 use Rattle.std.specs.Option.{option_map}
 use Rattle.table.specs.declared.faults.TableFault.{TableFault}

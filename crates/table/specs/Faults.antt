@@ -1,7 +1,7 @@
 -- The number and the place of each refusal of a table. Assumes nothing.
 use Rattle.std.specs.Prelude.{ℕ}
 use Rattle.table.specs.declared.faults.Place.{Place}
-use Rattle.table.specs.declared.faults.Place.TheVariants.{Opening, Table}
+use Rattle.table.specs.declared.faults.Place.TheVariants.{Table}
 use Rattle.table.specs.declared.faults.TableFault.{TableFault}
 use Rattle.table.specs.declared.faults.TableFault.TheVariants.{Row, Segment}
 

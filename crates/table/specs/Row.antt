@@ -4,7 +4,7 @@
 --   hits      the row has the hit mark after a search
 --   searched, written, marked, purged, unvisited, vacated
 --             the row after a search, a write, set marks, a purge, clear access, reset
-use Rattle.std.specs.Prelude.{ℕ, Bool, true, false, cond, not, ◌&&◌, ◌||◌, List, [], set, ◌==◌, bit_or, slice_index, slice_set}
+use Rattle.std.specs.Prelude.{ℕ, Bool, true, false, cond, not, ◌&&◌, ◌||◌, List, [], ◌==◌, bit_or, slice_index, slice_set}
 use Rattle.table.specs.declared.parts.Marks.{Marks}
 use Rattle.table.specs.declared.parts.Marking.{Marking}
 use Rattle.table.specs.declared.parts.Purge.{Purge}

@@ -1,5 +1,5 @@
 -- Reading back a number that was written gives the same number. Assumes nothing.
-use Rattle.std.proofs.Common.{◌≡◌, ℕ, ◌+◌, ◌^◌, ◌<◌, ◌≤◌, true, List, ◌++◌, length, Some, decimal, arith}
+use Rattle.std.proofs.Common.{◌≡◌, ℕ, ◌^◌, ◌<◌, ◌≤◌, true, List, ◌++◌, length, Some, decimal, arith}
 use Rattle.std.proofs.lemmas.Fmt.{decimal_nonempty}
 use Rattle.tokens.proofs.Reading.{at_front, number-here}
 use Rattle.tokens.proofs.Written.{decimal-letters, decimal-number, hex-letters, hex-number, hex-some, letters}

@@ -1,9 +1,9 @@
 -- What a written number says, read as a word. Assumes nothing.
 --   letters     every byte is part of a word
-use Rattle.std.proofs.Common.{◌≡◌, ℕ, zero, suc, ◌+◌, ◌*◌, ◌/◌, ◌%◌, ◌^◌, ◌<◌, ◌≤◌, Bool, true, false, ◌&&◌, ◌||◌, eqb, List, [], ◌∷◌, ◌++◌, length, drop, Some, decimal, sym, refl, ap, ◌∙◌, pow-suc, arith, length-append}
+use Rattle.std.proofs.Common.{◌≡◌, ℕ, zero, suc, ◌/◌, ◌%◌, ◌^◌, ◌<◌, ◌≤◌, Bool, true, false, ◌&&◌, eqb, List, [], ◌∷◌, length, Some, decimal, sym, refl, ap, ◌∙◌, pow-suc, arith}
 use Rattle.std.proofs.lemmas.Fmt.{decimal_is_IsNumeral}
 use Rattle.std.proofs.lemmas.Int.Digits.{digits_push, digits_value_push}
-use Rattle.std.proofs.lemmas.Bool.{and_from, and_left, and_right, cond-false, le-leb, lt-ltb, ne_eqb, or_from}
+use Rattle.std.proofs.lemmas.Bool.{and_from, and_left, and_right, cond-false, lt-ltb, ne_eqb, or_from}
 use Rattle.std.proofs.lemmas.Str.{digit_value-digit_char}
 use Rattle.std.specs.Str.Parse.{AllDigits, IsNumeral, digits_value}
 use Rattle.std.specs.Char.{digit_char, digit_value}

@@ -1,8 +1,8 @@
 -- What numbers in a line say. Assumes nothing.
---   all_digits         every byte is a digit of the radix
---   numeral_of         the number that digits write, at least one, if it is at most `most`
+--   all_digits          every byte is a digit of the radix
+--   numeral_of          the number that digits write, at least one, if it is at most `most`
 --   is_hex, number_of   a word is a number: behind `0x` or `0X` hexadecimal, else decimal
---   number_at          the number that the next word writes, and the place behind it
+--   number_at           the number that the next word writes, and the place behind it
 use Rattle.std.specs.Prelude.{ℕ, Bool, true, cond, ◌&&◌, ◌||◌, List, [], ◌∷◌, length, take, drop, Some, None, Ok, Err, codes, Option, Result, ◌==◌, nat_le, nat_lt}
 use Rattle.std.specs.Str.Parse.{digits_value}
 use Rattle.std.specs.Char.{digit_value}

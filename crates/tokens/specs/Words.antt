@@ -1,8 +1,8 @@
 -- Where words stand in a line of bytes. Assumes nothing.
---   is_blank, is_letter     what separates words, and what a word is made of
---   word_start, word_end    the first place from `at` on that is not blank; that ends a word
+--   is_blank, is_letter    what separates words, and what a word is made of
+--   word_start, word_end   the first place from `at` on that is not blank; that ends a word
 --   word_at                the word from `at` on, empty where none stands there
---   next_word, next_end     the first word from `at` on, and the place behind it
+--   next_word, next_end    the first word from `at` on, and the place behind it
 use Rattle.std.specs.Prelude.{ℕ, ◌+◌, Bool, not, ◌&&◌, ◌||◌, List, take, drop, ◌==◌}
 use Rattle.std.specs.List.{prefix_len}
 use Rattle.std.specs.Str.{bytes_eq}

@@ -1,5 +1,5 @@
 -- The memory of a device is the rows laid out, and what lies past them. Assumes nothing.
-use Rattle.std.specs.Prelude.{◌≡◌, ℕ, zero, suc, ◌+◌, ◌*◌, ◌<◌, ◌≤◌, true, List, [], ◌∷◌, ◌++◌, map, length, take, drop, slice_index, slice_index_or, refl}
+use Rattle.std.specs.Prelude.{◌≡◌, ℕ, zero, suc, ◌*◌, ◌<◌, ◌≤◌, true, List, [], ◌∷◌, ◌++◌, length, take, drop, slice_index, slice_index_or, refl}
 use Rattle.std.proofs.Common.{sym, ap, ◌∙◌, suc-mul, zero-mul, add-one, arith, take-add}
 use Rattle.device.specs.Proved.Marks.{byte_of-marks_of, quiet-marks_of}
 use Rattle.device.specs.Proved.Rows.{length-rows, row_at-rows, rows_apart}
@@ -7,9 +7,8 @@ use Rattle.device.specs.Layout.{byte_of, proper, row_in, rows_of}
 use Rattle.device.specs.Rows.{Frame, bytes_of, rows_in, words_of}
 use Rattle.device.specs.declared.device.Device.{Device}
 use Rattle.std.proofs.lemmas.List.FromFn.{map-range_with_len_more}
-use Rattle.std.proofs.lemmas.List.{append_assoc, drop_at, ext_get_or, get_or-map, get_or-take, flat_map_more, length-drop, length-map, length-take-le, take-append-drop}
+use Rattle.std.proofs.lemmas.List.{drop_at, ext_get_or, get_or-map, get_or-take, flat_map_more, length-drop, length-map, length-take-le, take-append-drop}
 use Rattle.std.proofs.ByRecursion.{All-from_get_or}
-use Rattle.std.specs.List.{flat_map}
 use Rattle.table.specs.Laws.{Sound, SoundRow}
 use Rattle.table.specs.Row.{Row, blank}
 

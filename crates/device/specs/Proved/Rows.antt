@@ -1,5 +1,5 @@
 -- The rows of a device after a change of its memory. Assumes nothing.
-use Rattle.std.specs.Prelude.{◌≡◌, ℕ, zero, suc, ◌+◌, ◌*◌, ◌<◌, ◌≤◌, true, ◌≢◌, ◌⊎◌, List, [], ◌∷◌, ◌++◌, map, length, drop, Ok, Err, slice_index, refl}
+use Rattle.std.specs.Prelude.{◌≡◌, ℕ, suc, ◌+◌, ◌*◌, ◌<◌, ◌≤◌, ◌≢◌, ◌⊎◌, List, map, length, drop, Ok, Err, slice_index}
 use Rattle.std.proofs.Common.{inl, inr, sym, ap, ◌∙◌, suc-mul, arith}
 use Rattle.device.specs.Layout.{marks_of, row_in, rows_of}
 use Rattle.std.proofs.lemmas.Nat.{mul-le}

@@ -1,4 +1,4 @@
-use Rattle.std.proofs.Common.{◌≡◌, ℕ, ◌*◌, length, arith, rules}
+use Rattle.std.proofs.Common.{◌≡◌, ◌*◌, length, arith, rules}
 use Rattle.cascade.proofs.Memory.{countable-within, places-told}
 use Rattle.cascade.specs.Cascades.{member_seat_rows, member_seat_width, places_for}
 use Rattle.cascade.proofs.cascades.on_cascade.Goals as goal

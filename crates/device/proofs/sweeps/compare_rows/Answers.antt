@@ -1,5 +1,5 @@
 use Rattle.std.proofs.Common.{◌≡◌, ℕ, ◌+◌, ◌*◌, ◌<◌, length, get_or, set, sym, ap, ◌∙◌, arith, rules}
-use Rattle.device.specs.Layout.{byte_of, marks_of, proper}
+use Rattle.device.specs.Layout.{byte_of, marks_of}
 use Rattle.device.proofs.Remarked.{get_or-remarked, remarked-more, remarked-none}
 use Rattle.std.proofs.lemmas.Nat.{mul-add-lt}
 use Rattle.table.specs.Row.{marks_searched}

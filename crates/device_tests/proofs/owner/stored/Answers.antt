@@ -1,9 +1,9 @@
-use Rattle.std.proofs.Common.{◌≡◌, ℕ, ◌+◌, ◌*◌, ◌<◌, length, set, replicate, Ok, sym, refl, ap, ◌∙◌, arith, rules}
+use Rattle.std.proofs.Common.{◌≡◌, ◌+◌, ◌*◌, length, set, replicate, sym, ap, ◌∙◌, arith}
 use Rattle.device.proofs.Laid.{words-written}
 use Rattle.device.specs.Rows.{new_row, rows_in}
 use Rattle.std.proofs.lemmas.List.{length-replicate}
 use Rattle.table.proofs.Checks.{cell-granted}
-use Rattle.table.specs.Calls.{change, on_cell}
+use Rattle.table.specs.Calls.{change}
 use Rattle.table.specs.Row.{written}
 use Rattle.device_tests.proofs.owner.stored.Goals as goal
 

@@ -1,4 +1,4 @@
-use Rattle.std.proofs.Common.{◌≡◌, true, false, length, ap, arith, rules, below_more}
+use Rattle.std.proofs.Common.{◌≡◌, false, length, ap, arith, rules, below_more}
 use Rattle.flags.proofs.Checks.{break-at, break-none, cut-passed}
 use Rattle.flags.specs.Cuts.{obeys, refused_at}
 use Rattle.flags.proofs.cuts.check_starts.Goals as goal

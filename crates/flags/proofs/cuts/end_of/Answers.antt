@@ -1,4 +1,4 @@
-use Rattle.std.proofs.Common.{sym, arith, rules}
+use Rattle.std.proofs.Common.{sym}
 use Rattle.std.proofs.lemmas.List.{get_or_default, get_or_past}
 use Rattle.flags.proofs.cuts.end_of.Goals as goal
 

@@ -1,4 +1,4 @@
-use Rattle.std.proofs.Common.{◌≡◌, ◌+◌, [], ◌∷◌, ◌++◌, get_or, take, sym, refl, ap, ◌∙◌, arith}
+use Rattle.std.proofs.Common.{◌+◌, [], ◌∷◌, ◌++◌, get_or, take, sym, refl, ap, ◌∙◌, arith}
 use Rattle.life.proofs.Complete.{walks-complete}
 use Rattle.life.proofs.Turns.{lived-more, lived-none, replies-more, replies-none, same-state}
 use Rattle.life.specs.declared.calls.Call.TheVariants.{OnRow}

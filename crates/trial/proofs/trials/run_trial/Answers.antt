@@ -1,13 +1,10 @@
-use Rattle.std.proofs.Common.{◌≡◌, List, length, IfOk, vec_items, sym, refl, ap, ◌∙◌, subst}
-use Rattle.fence.specs.declared.fences.Fence.{Fence}
+use Rattle.std.proofs.Common.{◌≡◌, length, IfOk, vec_items, ap, ◌∙◌, subst}
 use Rattle.flags.specs.Cuts.{Running, checked_cut, flags_so_far}
-use Rattle.join.specs.declared.joins.Join.{Join}
 use Rattle.life.proofs.Depth.{depth-worked}
 use Rattle.life.specs.Meaning.{State, lived, replies}
 use Rattle.life.specs.Walks.{WalksComplete}
 use Rattle.registers.specs.declared.state.Registers.{Registers}
 use Rattle.table.specs.Calls.{granted}
-use Rattle.table.specs.Row.{Row}
 use Rattle.trial.specs.Pile.{first_state, state_in}
 use Rattle.trial.proofs.trials.run_trial.Goals as goal
 

@@ -1,4 +1,4 @@
-use Rattle.std.proofs.Common.{refl, rules}
+use Rattle.std.proofs.Common.{refl}
 use Rattle.cascade.proofs.Vacant.{row-vacant}
 use Rattle.cascade.proofs.tables.MemberTable.set_marks.Goals as goal
 

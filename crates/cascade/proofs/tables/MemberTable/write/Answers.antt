@@ -1,4 +1,4 @@
-use Rattle.std.proofs.Common.{refl, rules}
+use Rattle.std.proofs.Common.{refl}
 use Rattle.cascade.proofs.Vacant.{cell-vacant}
 use Rattle.cascade.proofs.tables.MemberTable.write.Goals as goal
 

@@ -1,4 +1,4 @@
-use Rattle.std.proofs.Common.{◌≡◌, get_or, Ok, sym, ap, ◌∙◌}
+use Rattle.std.proofs.Common.{get_or, Ok, sym, ap, ◌∙◌}
 use Rattle.std.proofs.lemmas.Result.{err_from_is_err_and}
 use Rattle.table.proofs.Refusals.{cell-alike}
 use Rattle.device.specs.Proved.Rows.{place-granted, word_at-rows}

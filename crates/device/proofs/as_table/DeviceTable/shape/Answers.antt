@@ -1,4 +1,4 @@
-use Rattle.std.proofs.Common.{◌≡◌, ℕ, sym, ap}
+use Rattle.std.proofs.Common.{ℕ, sym, ap}
 use Rattle.device.specs.Proved.Rows.{length-rows}
 use Rattle.table.specs.declared.parts.Shape.{Shape}
 use Rattle.device.proofs.as_table.DeviceTable.shape.Goals as goal

@@ -1,4 +1,4 @@
-use Rattle.std.proofs.Common.{◌≡◌, ◌*◌, ◌≤◌, true, false, length, is_err, sym, refl, ◌∙◌, rules}
+use Rattle.std.proofs.Common.{◌≡◌, ◌*◌, ◌≤◌, true, false, length, is_err, refl, ◌∙◌, rules}
 use Rattle.device.proofs.NewRows.{rows_new, rows_none}
 use Rattle.device.specs.Opening.{checked, depth_at}
 use Rattle.table.proofs.Granted.{granted-new, granted-old}
