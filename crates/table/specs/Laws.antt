@@ -1,6 +1,6 @@
 -- What every table keeps. Assumes nothing.
 use Rattle.std.specs.Prelude.{◌≡◌, ℕ, ◌<◌, ◌≤◌, Bool, true, false, ◌&&◌, List, length, Some, None, Option}
-use Rattle.std.specs.List.{AllByRecursion as All}
+use Rattle.std.specs.List.{AllByRecursion}
 use Rattle.table.specs.Calls.{row_at}
 use Rattle.table.specs.Row.{Row, is_empty, is_hit}
 
@@ -14,7 +14,7 @@ pub record Sound (w : ℕ) (rs : List Row) : Type 0 where
   pub some : 1 ≤ w
   pub narrow : w ≤ 8
   pub few : length rs ≤ 262144
-  pub each : All (SoundRow w) rs
+  pub each : AllByRecursion (SoundRow w) rs
 
 -- r names the smallest row, n or later, that passes the test p; none passes if it names none
 abbrev pub Least : (Row → Bool) → List Row → ℕ → Option ℕ → Type 0
