@@ -1,6 +1,5 @@
 -- The cascade of some members, behind their fences, each in 8,192 words and mark bytes. Assumes nothing.
 --   places_for    how many places the smallest cascade has that holds so many members
---   halvings      how often such a cascade is halved until each half has one place
 --   CascadeTold   what work on the two halves of the cascade of some seats comes to
 use Rattle.std.specs.Prelude.{◌≡◌, ℕ, ◌*◌, Bool, true, false, cond, ◌&&◌, List, length, Ok, Err, Result, nat_le}
 use Rattle.cascade.specs.Levels.{Told, level_rows, level_width}

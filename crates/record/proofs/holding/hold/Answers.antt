@@ -22,9 +22,11 @@ loop-entry-preserved g c =
     let s = state_of t.width t.rows p.table p.registers in
     let did = c.in_ok-verdict.ensures.state in
     let none : Entry = record { number = 0; from = 0; to = 0; line = record { ask = Work (OnRow (Read 0 0)); answer = None } } in
-    let asked = (get_or c.args.entries.now c.loop-entry.entry-index none).line.ask in
-    (omega arith, did ∙ ap (λ st. after_ask st asked) c.loop-entry.invariant.1
-        ∙ sym (asked-more s c.args.entries.now c.loop-entry.entry-index none c.loop-entry-test.true))
+    let asked = (get_or c.args.entries.now c.loop-entry.entry-index none).line.ask in (
+      omega arith,
+      did ∙ ap (λ st. after_ask st asked) c.loop-entry.invariant.1
+          ∙ sym (asked-more s c.args.entries.now c.loop-entry.entry-index none c.loop-entry-test.true),
+    )
 
 pub returns-in_err-verdict-clause-walks : goal.returns-in_err-verdict-clause-walks
 returns-in_err-verdict-clause-walks g c = walks-complete _ _
