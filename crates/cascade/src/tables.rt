@@ -1,6 +1,6 @@
 // A member is a table, whichever it is.
 ghost use Rattle.cascade.specs.Members.{FrameOf, rows_of, width_of};
-ghost use Rattle.cascade.specs.Proved.{chain-of, same_of, sound-of};
+ghost use Rattle.cascade.specs.Proved.{chain_of, same_of, sound_of};
 
 use crate::members::Member;
 use table::{Marking, Marks, Purge, Search, Shape, Table, TableFault};
@@ -13,13 +13,13 @@ impl<D: Table, P: Table> Table for Member<D, P> {
 
     ghost rows = { rows_of D.Table.rows P.Table.rows };
 
-    ghost sound = { sound-of D.Table.width P.Table.width D.Table.rows P.Table.rows D.Table.sound P.Table.sound };
+    ghost sound = { sound_of D.Table.width P.Table.width D.Table.rows P.Table.rows D.Table.sound P.Table.sound };
 
     ghost frame = { FrameOf D.Table.frame P.Table.frame };
 
     ghost same = { same_of D.Table.frame P.Table.frame D.Table.same P.Table.same };
 
-    ghost chain = { chain-of D.Table.frame P.Table.frame D.Table.chain P.Table.chain };
+    ghost chain = { chain_of D.Table.frame P.Table.frame D.Table.chain P.Table.chain };
 
     fn shape(&self) -> Shape {
         match self {

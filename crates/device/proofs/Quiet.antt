@@ -9,29 +9,29 @@ use Rattle.table.specs.declared.parts.Marks.{Marks}
 use Rattle.table.specs.declared.parts.Search.{Search}
 
 -- one of two sets of marks
-quiet-cond : (b : Bool) (m n : Marks) → (m.empty && m.hit) ≡ false → (n.empty && n.hit) ≡ false → ((cond b m n).empty && (cond b m n).hit) ≡ false
-quiet-cond true m n p q = p
-quiet-cond false m n p q = q
+quiet_cond : (b : Bool) (m n : Marks) → (m.empty && m.hit) ≡ false → (n.empty && n.hit) ≡ false → ((cond b m n).empty && (cond b m n).hit) ≡ false
+quiet_cond true m n p q = p
+quiet_cond false m n p q = q
 
 and-not : (e h : Bool) → (e && (not e && h)) ≡ false
 and-not true h = refl
 and-not false h = refl
 
-and-not-last : (e h : Bool) → (e && (h && not e)) ≡ false
-and-not-last true true = refl
-and-not-last true false = refl
-and-not-last false h = refl
+and-not_last : (e h : Bool) → (e && (h && not e)) ≡ false
+and-not_last true true = refl
+and-not_last true false = refl
+and-not_last false h = refl
 
-pub quiet-written : (s : ℕ) (m : Marks) → (m.empty && m.hit) ≡ false → ((marks_written s m).empty && (marks_written s m).hit) ≡ false
-quiet-written s m q = quiet-cond (eqb s 0) (made_valid m) m refl q
+pub quiet_written : (s : ℕ) (m : Marks) → (m.empty && m.hit) ≡ false → ((marks_written s m).empty && (marks_written s m).hit) ≡ false
+quiet_written s m q = quiet_cond (eqb s 0) (made_valid m) m refl q
 
-pub quiet-given : (g : Marking) (m : Marks) → ((marks_given g m).empty && (marks_given g m).hit) ≡ false
-quiet-given g m = and-not-last g.empty m.hit
+pub quiet_given : (g : Marking) (m : Marks) → ((marks_given g m).empty && (marks_given g m).hit) ≡ false
+quiet_given g m = and-not_last g.empty m.hit
 
-pub quiet-searched : (q : Search) (word : ℕ) (m : Marks) → ((marks_searched q word m).empty && (marks_searched q word m).hit) ≡ false
-quiet-searched q word m = and-not m.empty _
+pub quiet_searched : (q : Search) (word : ℕ) (m : Marks) → ((marks_searched q word m).empty && (marks_searched q word m).hit) ≡ false
+quiet_searched q word m = and-not m.empty _
 
-pub quiet-swept : (how : Sweep) (m : Marks) → (m.empty && m.hit) ≡ false → ((marks_swept how m).empty && (marks_swept how m).hit) ≡ false
-quiet-swept (Purge k) m q = quiet-cond (of_kind k m) cleared m refl q
-quiet-swept ClearAccess m q = q
-quiet-swept Reset m q = refl
+pub quiet_swept : (how : Sweep) (m : Marks) → (m.empty && m.hit) ≡ false → ((marks_swept how m).empty && (marks_swept how m).hit) ≡ false
+quiet_swept (Purge k) m q = quiet_cond (of_kind k m) cleared m refl q
+quiet_swept ClearAccess m q = q
+quiet_swept Reset m q = refl

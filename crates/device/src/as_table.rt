@@ -1,6 +1,6 @@
 // The device as a table.
 ghost use Rattle.std.specs.Prelude.{◌≡◌, ◌+◌, ◌*◌, ◌<◌, map, length, IfOk};
-ghost use Rattle.device.specs.Proved.Memory.{frame-chain, frame_same, sound-rows};
+ghost use Rattle.device.specs.Proved.Memory.{frame_chain, frame_same, sound_rows};
 ghost use Rattle.device.specs.Rows.{Frame, rows_in, width_in};
 ghost use Rattle.device.specs.Sweeps.{row_swept};
 ghost use Rattle.table.specs.Calls.{on_cell, on_row};
@@ -104,13 +104,13 @@ impl Table for Device<'_> {
 
     ghost rows = { rows_in };
 
-    ghost sound = { sound-rows };
+    ghost sound = { sound_rows };
 
     ghost frame = { Frame };
 
     ghost same = { frame_same };
 
-    ghost chain = { frame-chain };
+    ghost chain = { frame_chain };
 
     fn shape(&self) -> Shape {
         Shape {

@@ -7,9 +7,9 @@ use Rattle.table.specs.Laws.{Sound, SoundRow}
 use Rattle.table.specs.Row.{Row}
 use Rattle.fence.specs.Shown.{shown}
 
-pub shown-sound : (w f : ℕ) (rs : List Row) → Sound w rs → Sound w (shown f rs)
+pub shown_sound : (w f : ℕ) (rs : List Row) → Sound w rs → Sound w (shown f rs)
 unfolding shown
-shown-sound w f rs h = record {
+shown_sound w f rs h = record {
   some = h.some;
   narrow = h.narrow;
   few = let few = h.few in rw length-drop (omega arith);

@@ -4,7 +4,7 @@ ghost use Rattle.std.proofs.Common.{◌∙◌};
 ghost use Rattle.std.specs.Option.{option_map};
 ghost use Rattle.table.specs.Calls.{on_cell, on_row};
 ghost use Rattle.fence.specs.Shown.{shown};
-ghost use Rattle.fence.specs.Sound.{shown-sound};
+ghost use Rattle.fence.specs.Sound.{shown_sound};
 
 use crate::fences::Fence;
 use table::{Marking, Marks, Purge, Search, Shape, Table, TableFault};
@@ -62,7 +62,7 @@ impl<T: Table> Table for Fence<T> {
 
     ghost rows = { λ t. shown t.hidden (T.Table.rows t.table) };
 
-    ghost sound = { λ t. shown-sound (T.Table.width t.table) t.hidden (T.Table.rows t.table) (T.Table.sound t.table) };
+    ghost sound = { λ t. shown_sound (T.Table.width t.table) t.hidden (T.Table.rows t.table) (T.Table.sound t.table) };
 
     // The same number of rows stays hidden.
     ghost frame = { λ a b. (b.hidden ≡ a.hidden) × T.Table.frame a.table b.table };

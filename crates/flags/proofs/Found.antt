@@ -1,21 +1,21 @@
 -- Flags of a kind for which only rows that pass a test count, from the first of them. Assumes nothing.
 use Rattle.std.proofs.Common.{◌≡◌, ℕ, suc, ◌+◌, ◌-◌, ◌<◌, ◌≤◌, Bool, true, false, List, [], ◌∷◌, length, drop, Some, None, Option, sym, ap, ◌∙◌, subst, arith}
-use Rattle.flags.proofs.Parts.{between_first, flag-next}
+use Rattle.flags.proofs.Parts.{between_first, flag_next}
 use Rattle.flags.specs.Laws.{Laws, between}
 use Rattle.std.proofs.lemmas.List.{get_or-drop, get_or-take, length-drop, length-take}
-use Rattle.table.proofs.First.{first-least}
+use Rattle.table.proofs.First.{first_least}
 use Rattle.table.specs.Calls.{first, row_at}
 use Rattle.table.specs.Laws.{Least}
 use Rattle.table.specs.Row.{Row, blank}
 
 module _ {K : Type 0} {flag : List Row → ℕ → K} {join : K → K → K} {none : K} (laws : Laws flag join none)
     (p : Row → Bool) (skip : (row : Row) (rs : List Row) (n : ℕ) → p row ≡ false → flag (row ∷ rs) n ≡ flag rs (suc n)) where
-  flag-quiet : (xs : List Row) (n : ℕ) → ((k : ℕ) → k < length xs → p (row_at xs k) ≡ false) → flag xs n ≡ none
-  flag-quiet [] n h = laws.empty n
-  flag-quiet (row ∷ xs) n h = skip row xs n (h 0 (omega arith)) ∙ flag-quiet xs (suc n) (λ k lt. h (suc k) (omega arith))
+  flag_quiet : (xs : List Row) (n : ℕ) → ((k : ℕ) → k < length xs → p (row_at xs k) ≡ false) → flag xs n ≡ none
+  flag_quiet [] n h = laws.empty n
+  flag_quiet (row ∷ xs) n h = skip row xs n (h 0 (omega arith)) ∙ flag_quiet xs (suc n) (λ k lt. h (suc k) (omega arith))
 
-  quiet-between : (rs : List Row) (a b : ℕ) → ((k : ℕ) → a ≤ k → k < b → k < length rs → p (row_at rs k) ≡ false) → flag (between a b rs) a ≡ none
-  quiet-between rs a b h = flag-quiet (between a b rs) a
+  quiet_between : (rs : List Row) (a b : ℕ) → ((k : ℕ) → a ≤ k → k < b → k < length rs → p (row_at rs k) ≡ false) → flag (between a b rs) a ≡ none
+  quiet_between rs a b h = flag_quiet (between a b rs) a
       (λ k lt.
       let size = simp (length-take, length-drop) at lt in
       let inside : k < b - a = omega arith in
@@ -23,22 +23,22 @@ module _ {K : Type 0} {flag : List Row → ℕ → K} {join : K → K → K} {no
       ap p same ∙ h (a + k) (omega arith) (omega arith) (omega arith))
 
   least : (rs : List Row) (a : ℕ) (r : Option ℕ) → r ≡ first p rs a → Least p rs a r
-  least rs a r e = subst (λ (o : Option ℕ). Least p rs a o) (sym e) (first-least p rs a)
+  least rs a r e = subst (λ (o : Option ℕ). Least p rs a o) (sym e) (first_least p rs a)
 
   -- no row counts, or none before the end
-  pub flag-none : (rs : List Row) (a b : ℕ) → None ≡ first p rs a → flag (between a b rs) a ≡ none
-  flag-none rs a b e = quiet-between rs a b (λ k from before fits. least rs a None e k from fits)
+  pub flag_none : (rs : List Row) (a b : ℕ) → None ≡ first p rs a → flag (between a b rs) a ≡ none
+  flag_none rs a b e = quiet_between rs a b (λ k from before fits. least rs a None e k from fits)
 
-  pub flag-before : (rs : List Row) (a b row : ℕ) → Some row ≡ first p rs a → b ≤ row → flag (between a b rs) a ≡ none
-  flag-before rs a b row e end = quiet-between rs a b (λ k from before fits. (least rs a (Some row) e).3 k from (omega arith))
+  pub flag_before : (rs : List Row) (a b row : ℕ) → Some row ≡ first p rs a → b ≤ row → flag (between a b rs) a ≡ none
+  flag_before rs a b row e end = quiet_between rs a b (λ k from before fits. (least rs a (Some row) e).3 k from (omega arith))
 
   -- the rows before the first that counts add nothing
-  pub flag-found : (rs : List Row) (a b row : ℕ) → Some row ≡ first p rs a → row < b → flag (between a b rs) a ≡ flag (row_at rs row ∷ between (row + 1) b rs) row
-  flag-found rs a b row e lt =
+  pub flag_found : (rs : List Row) (a b row : ℕ) → Some row ≡ first p rs a → row < b → flag (between a b rs) a ≡ flag (row_at rs row ∷ between (row + 1) b rs) row
+  flag_found rs a b row e lt =
       let found = least rs a (Some row) e in
-      flag-next laws rs a row b found.0 (omega arith) (omega (arith, found.1))
-      ∙ ap (λ x. join x (flag (between row b rs) row)) (flag-before rs a row row e (omega arith)) ∙ laws.left (flag (between row b rs) row)
+      flag_next laws rs a row b found.0 (omega arith) (omega (arith, found.1))
+      ∙ ap (λ x. join x (flag (between row b rs) row)) (flag_before rs a row row e (omega arith)) ∙ laws.left (flag (between row b rs) row)
       ∙ ap (λ xs. flag xs row) (between_first rs row b lt found.1)
 
-  pub found-passes : (rs : List Row) (a row : ℕ) → Some row ≡ first p rs a → p (row_at rs row) ≡ true
-  found-passes rs a row e = (least rs a (Some row) e).2
+  pub found_passes : (rs : List Row) (a row : ℕ) → Some row ≡ first p rs a → p (row_at rs row) ≡ true
+  found_passes rs a row e = (least rs a (Some row) e).2

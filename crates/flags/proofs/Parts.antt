@@ -21,8 +21,8 @@ module _ (rs : List Row) where
       let size : b - a ≡ suc (b - (a + 1)) = omega arith in
       ap (λ n. take n (drop a rs)) size ∙ ap (take (suc (b - (a + 1)))) (drop_more rs a blank fits)
 
-pub flag-next : {K : Type 0} {flag : List Row → ℕ → K} {join : K → K → K} {none : K} → Laws flag join none → (rs : List Row) (a m b : ℕ)
+pub flag_next : {K : Type 0} {flag : List Row → ℕ → K} {join : K → K → K} {none : K} → Laws flag join none → (rs : List Row) (a m b : ℕ)
     → a ≤ m → m ≤ b → m ≤ length rs → flag (between a b rs) a ≡ join (flag (between a m rs) a) (flag (between m b rs) m)
-flag-next {flag = flag} {join = join} laws rs a m b am mb fits =
+flag_next {flag = flag} {join = join} laws rs a m b am mb fits =
     ap (λ xs. flag xs a) (between_split rs a m b am mb) ∙ laws.split (between a m rs) (between m b rs) a
     ∙ ap (λ n. join (flag (between a m rs) a) (flag (between m b rs) n)) (length-between rs a m am fits)

@@ -1,38 +1,38 @@
 -- The flags of all rows, from the first rows that a table would name. Assumes nothing.
 use Rattle.std.proofs.Common.{◌≡◌, ℕ, ◌+◌, ◌<◌, Bool, List, length, Some, None, Option, sym, refl, ap, ◌∙◌, subst, arith}
 use native.Mathlib.Nat.{sub-zero}
-use Rattle.flags.proofs.Empties.{full-empty, full-none}
-use Rattle.flags.proofs.Hits.{hits-none, hits-one, hits-several}
+use Rattle.flags.proofs.Empties.{full_empty, full_none}
+use Rattle.flags.proofs.Hits.{hits_none, hits_one, hits_several}
 use Rattle.flags.specs.Kinds.{full_from, hits_from}
 use Rattle.flags.specs.Laws.{between}
 use Rattle.flags.specs.Readings.{FullRead, HitsRead, empty_is, hit_and, hits_are}
 use Rattle.std.proofs.lemmas.List.{take_all}
-use Rattle.table.proofs.First.{first-least}
+use Rattle.table.proofs.First.{first_least}
 use Rattle.table.specs.Calls.{first}
 use Rattle.table.specs.Laws.{Least}
 use Rattle.table.specs.Row.{Row, is_empty, is_hit}
 
 module _ (rs : List Row) where
-  all-rows : between 0 (length rs) rs ≡ rs
-  all-rows = rw (sub-zero (length rs)) (take_all (length rs) rs (omega arith))
+  all_rows : between 0 (length rs) rs ≡ rs
+  all_rows = rw (sub-zero (length rs)) (take_all (length rs) rs (omega arith))
 
   within : (p : Row → Bool) (n a : ℕ) → Some a ≡ first p rs n → a < length rs
-  within p n a e = (subst (λ (r : Option ℕ). Least p rs n r) (sym e) (first-least p rs n)).1
+  within p n a e = (subst (λ (r : Option ℕ). Least p rs n r) (sym e) (first_least p rs n)).1
 
-  next-read : (a : ℕ) → Some a ≡ first is_hit rs 0 → (r : Option ℕ) → r ≡ first is_hit rs (a + 1) → hits_from (between 0 (length rs) rs) 0 ≡ hit_and a r
-  next-read a e None f = hits-one rs 0 (length rs) a e (within is_hit 0 a e) f
-  next-read a e (Some b) f = hits-several rs 0 (length rs) a e (within is_hit 0 a e) b f (within is_hit (a + 1) b f)
+  next_read : (a : ℕ) → Some a ≡ first is_hit rs 0 → (r : Option ℕ) → r ≡ first is_hit rs (a + 1) → hits_from (between 0 (length rs) rs) 0 ≡ hit_and a r
+  next_read a e None f = hits_one rs 0 (length rs) a e (within is_hit 0 a e) f
+  next_read a e (Some b) f = hits_several rs 0 (length rs) a e (within is_hit 0 a e) b f (within is_hit (a + 1) b f)
 
-  hit-read : (r : Option ℕ) → r ≡ first is_hit rs 0 → hits_from (between 0 (length rs) rs) 0 ≡ hits_are rs r
-  hit-read None e = hits-none rs 0 (length rs) e
-  hit-read (Some a) e = next-read a e (first is_hit rs (a + 1)) refl
+  hit_read : (r : Option ℕ) → r ≡ first is_hit rs 0 → hits_from (between 0 (length rs) rs) 0 ≡ hits_are rs r
+  hit_read None e = hits_none rs 0 (length rs) e
+  hit_read (Some a) e = next_read a e (first is_hit rs (a + 1)) refl
 
-  empty-read : (r : Option ℕ) → r ≡ first is_empty rs 0 → full_from (between 0 (length rs) rs) 0 ≡ empty_is r
-  empty-read None e = full-none rs 0 (length rs) e
-  empty-read (Some a) e = full-empty rs 0 (length rs) a e (within is_empty 0 a e)
+  empty_read : (r : Option ℕ) → r ≡ first is_empty rs 0 → full_from (between 0 (length rs) rs) 0 ≡ empty_is r
+  empty_read None e = full_none rs 0 (length rs) e
+  empty_read (Some a) e = full_empty rs 0 (length rs) a e (within is_empty 0 a e)
 
-pub hits-read : HitsRead
-hits-read rs = ap (λ xs. hits_from xs 0) (sym (all-rows rs)) ∙ hit-read rs (first is_hit rs 0) refl
+pub hits_read : HitsRead
+hits_read rs = ap (λ xs. hits_from xs 0) (sym (all_rows rs)) ∙ hit_read rs (first is_hit rs 0) refl
 
-pub full-read : FullRead
-full-read rs = ap (λ xs. full_from xs 0) (sym (all-rows rs)) ∙ empty-read rs (first is_empty rs 0) refl
+pub full_read : FullRead
+full_read rs = ap (λ xs. full_from xs 0) (sym (all_rows rs)) ∙ empty_read rs (first is_empty rs 0) refl

@@ -9,10 +9,10 @@ use Rattle.flags.specs.Kinds.{full_from, full_joined, hit_then, hits_from, hits_
 use Rattle.flags.specs.Laws.{Laws}
 use Rattle.table.specs.Row.{Row, is_empty, is_hit}
 
-hits-right : (x : HitFlag) → hits_joined x None ≡ x
-hits-right None = refl
-hits-right (One a) = refl
-hits-right (Several a) = refl
+hits_right : (x : HitFlag) → hits_joined x None ≡ x
+hits_right None = refl
+hits_right (One a) = refl
+hits_right (Several a) = refl
 
 hit_then-joined : (a : ℕ) (x y : HitFlag) → hits_joined (hit_then a x) y ≡ hit_then a (hits_joined x y)
 hit_then-joined a None y = refl
@@ -21,55 +21,55 @@ hit_then-joined a (One b) (One c) = refl
 hit_then-joined a (One b) (Several c) = refl
 hit_then-joined a (Several b) y = refl
 
-hits-assoc : (x y z : HitFlag) → hits_joined (hits_joined x y) z ≡ hits_joined x (hits_joined y z)
-hits-assoc None y z = refl
-hits-assoc (One a) y z = hit_then-joined a y z
-hits-assoc (Several a) y z = refl
+hits_assoc : (x y z : HitFlag) → hits_joined (hits_joined x y) z ≡ hits_joined x (hits_joined y z)
+hits_assoc None y z = refl
+hits_assoc (One a) y z = hit_then-joined a y z
+hits_assoc (Several a) y z = refl
 
 -- the rows behind a row are numbered on from the next
-next-number : {K : Type 0} (flag : List Row → ℕ → K) (xs ys : List Row) (n : ℕ) → flag ys (suc n + length xs) ≡ flag ys (n + suc (length xs))
-next-number flag xs ys n = let e : suc n + length xs ≡ n + suc (length xs) = omega arith in ap (flag ys) e
+next_number : {K : Type 0} (flag : List Row → ℕ → K) (xs ys : List Row) (n : ℕ) → flag ys (suc n + length xs) ≡ flag ys (n + suc (length xs))
+next_number flag xs ys n = let e : suc n + length xs ≡ n + suc (length xs) = omega arith in ap (flag ys) e
 
-hits-head : (b : Bool) (n : ℕ) (x y z : HitFlag) → z ≡ hits_joined x y → cond b (hit_then n z) z ≡ hits_joined (cond b (hit_then n x) x) y
-hits-head true n x y z e = ap (hit_then n) e ∙ sym (hit_then-joined n x y)
-hits-head false n x y z e = e
+hits_head : (b : Bool) (n : ℕ) (x y z : HitFlag) → z ≡ hits_joined x y → cond b (hit_then n z) z ≡ hits_joined (cond b (hit_then n x) x) y
+hits_head true n x y z e = ap (hit_then n) e ∙ sym (hit_then-joined n x y)
+hits_head false n x y z e = e
 
-hits-split : (xs ys : List Row) (n : ℕ) → hits_from (xs ++ ys) n ≡ hits_joined (hits_from xs n) (hits_from ys (n + length xs))
+hits_split : (xs ys : List Row) (n : ℕ) → hits_from (xs ++ ys) n ≡ hits_joined (hits_from xs n) (hits_from ys (n + length xs))
 unfolding hits_from
-hits-split [] ys n = let e : n ≡ n + 0 = omega arith in ap (hits_from ys) e
-hits-split (row ∷ xs) ys n =
-    hits-head (is_hit row) n (hits_from xs (suc n)) (hits_from ys (n + suc (length xs))) (hits_from (xs ++ ys) (suc n))
-    (hits-split xs ys (suc n) ∙ ap (hits_joined (hits_from xs (suc n))) (next-number hits_from xs ys n))
+hits_split [] ys n = let e : n ≡ n + 0 = omega arith in ap (hits_from ys) e
+hits_split (row ∷ xs) ys n =
+    hits_head (is_hit row) n (hits_from xs (suc n)) (hits_from ys (n + suc (length xs))) (hits_from (xs ++ ys) (suc n))
+    (hits_split xs ys (suc n) ∙ ap (hits_joined (hits_from xs (suc n))) (next_number hits_from xs ys n))
 
-hits-empty : (n : ℕ) → hits_from [] n ≡ None
+hits_empty : (n : ℕ) → hits_from [] n ≡ None
 unfolding hits_from
-hits-empty n = refl
+hits_empty n = refl
 
-pub hits-laws : Laws hits_from hits_joined None
-hits-laws = record { assoc = hits-assoc; left = λ x. refl; right = hits-right; empty = hits-empty; split = hits-split }
+pub hits_laws : Laws hits_from hits_joined None
+hits_laws = record { assoc = hits_assoc; left = λ x. refl; right = hits_right; empty = hits_empty; split = hits_split }
 
-full-right : (x : FullFlag) → full_joined x Full ≡ x
-full-right Full = refl
-full-right (EmptyAt a) = refl
+full_right : (x : FullFlag) → full_joined x Full ≡ x
+full_right Full = refl
+full_right (EmptyAt a) = refl
 
-full-assoc : (x y z : FullFlag) → full_joined (full_joined x y) z ≡ full_joined x (full_joined y z)
-full-assoc Full y z = refl
-full-assoc (EmptyAt a) y z = refl
+full_assoc : (x y z : FullFlag) → full_joined (full_joined x y) z ≡ full_joined x (full_joined y z)
+full_assoc Full y z = refl
+full_assoc (EmptyAt a) y z = refl
 
-full-head : (b : Bool) (n : ℕ) (x y z : FullFlag) → z ≡ full_joined x y → cond b (EmptyAt n) z ≡ full_joined (cond b (EmptyAt n) x) y
-full-head true n x y z e = refl
-full-head false n x y z e = e
+full_head : (b : Bool) (n : ℕ) (x y z : FullFlag) → z ≡ full_joined x y → cond b (EmptyAt n) z ≡ full_joined (cond b (EmptyAt n) x) y
+full_head true n x y z e = refl
+full_head false n x y z e = e
 
-full-split : (xs ys : List Row) (n : ℕ) → full_from (xs ++ ys) n ≡ full_joined (full_from xs n) (full_from ys (n + length xs))
+full_split : (xs ys : List Row) (n : ℕ) → full_from (xs ++ ys) n ≡ full_joined (full_from xs n) (full_from ys (n + length xs))
 unfolding full_from
-full-split [] ys n = let e : n ≡ n + 0 = omega arith in ap (full_from ys) e
-full-split (row ∷ xs) ys n =
-    full-head (is_empty row) n (full_from xs (suc n)) (full_from ys (n + suc (length xs))) (full_from (xs ++ ys) (suc n))
-    (full-split xs ys (suc n) ∙ ap (full_joined (full_from xs (suc n))) (next-number full_from xs ys n))
+full_split [] ys n = let e : n ≡ n + 0 = omega arith in ap (full_from ys) e
+full_split (row ∷ xs) ys n =
+    full_head (is_empty row) n (full_from xs (suc n)) (full_from ys (n + suc (length xs))) (full_from (xs ++ ys) (suc n))
+    (full_split xs ys (suc n) ∙ ap (full_joined (full_from xs (suc n))) (next_number full_from xs ys n))
 
-full-empty : (n : ℕ) → full_from [] n ≡ Full
+full_empty : (n : ℕ) → full_from [] n ≡ Full
 unfolding full_from
-full-empty n = refl
+full_empty n = refl
 
-pub full-laws : Laws full_from full_joined Full
-full-laws = record { assoc = full-assoc; left = λ x. refl; right = full-right; empty = full-empty; split = full-split }
+pub full_laws : Laws full_from full_joined Full
+full_laws = record { assoc = full_assoc; left = λ x. refl; right = full_right; empty = full_empty; split = full_split }

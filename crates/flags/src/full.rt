@@ -1,6 +1,6 @@
 // The full flag: whether every row is valid, else which row is the first empty one.
 ghost use Rattle.flags.specs.Kinds.{full_from, full_joined};
-ghost use Rattle.flags.specs.Proved.{full-laws};
+ghost use Rattle.flags.specs.Proved.{full_laws};
 ghost use Rattle.flags.specs.declared.full.FullFlag.TheVariants.{Full as NoEmpty};
 
 use crate::kinds::{FlagKind, Part};
@@ -20,7 +20,7 @@ impl FlagKind for FullFlag {
 
     ghost none = { NoEmpty };
 
-    ghost laws = { full-laws };
+    ghost laws = { full_laws };
 
     fn nothing() -> FullFlag {
         FullFlag::Full

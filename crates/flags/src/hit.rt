@@ -1,6 +1,6 @@
 // The hit flag: which row hit first, and whether another did.
 ghost use Rattle.flags.specs.Kinds.{hits_from, hits_joined};
-ghost use Rattle.flags.specs.Proved.{hits-laws};
+ghost use Rattle.flags.specs.Proved.{hits_laws};
 ghost use Rattle.flags.specs.declared.hit.HitFlag.TheVariants.{None as NoHit};
 
 use crate::kinds::{FlagKind, Part};
@@ -21,7 +21,7 @@ impl FlagKind for HitFlag {
 
     ghost none = { NoHit };
 
-    ghost laws = { hits-laws };
+    ghost laws = { hits_laws };
 
     fn nothing() -> HitFlag {
         HitFlag::None

@@ -34,16 +34,16 @@ module _ (p : Row → Bool) where
   first-take (suc n) (row ∷ rs) (suc i) = rw (first-take n rs i) (within-suc n (first p rs i))
 
   module _ (n w : ℕ) (us ls : List Row) (i : ℕ) where
-    first-join : (same : (row : Row) → p (cut_row w row) ≡ p row)
+    first_join : (same : (row : Row) → p (cut_row w row) ≡ p row)
         → first p (join_rows n w us ls) i ≡ within n (option_or (first p us i) (option_map (λ k. length us + k) (first p ls (i - length us))))
     unfolding join_rows
-    first-join same = first-take n (map (cut_row w) (us ++ ls)) i ∙ ap (within n) (first-map p (cut_row w) same (us ++ ls) i ∙ first-append p us ls i)
+    first_join same = first-take n (map (cut_row w) (us ++ ls)) i ∙ ap (within n) (first-map p (cut_row w) same (us ++ ls) i ∙ first-append p us ls i)
 
-    pub first-upper : ((row : Row) → p (cut_row w row) ≡ p row) → length us ≤ n → (a : ℕ) → Some a ≡ first p us i → Some a ≡ first p (join_rows n w us ls) i
-    first-upper same few a e =
+    pub first_upper : ((row : Row) → p (cut_row w row) ≡ p row) → length us ≤ n → (a : ℕ) → Some a ≡ first p us i → Some a ≡ first p (join_rows n w us ls) i
+    first_upper same few a e =
         let lt = first-within p us i a (sym e) in
-        sym (first-join same ∙ rw (← e, lt-ltb a n (omega arith)))
+        sym (first_join same ∙ rw (← e, lt-ltb a n (omega arith)))
 
-    pub first-lower : ((row : Row) → p (cut_row w row) ≡ p row) → (d from : ℕ) (found r : Option ℕ) → None ≡ first p us i
+    pub first_lower : ((row : Row) → p (cut_row w row) ≡ p row) → (d from : ℕ) (found r : Option ℕ) → None ≡ first p us i
         → d ≡ length us → from ≡ i - d → found ≡ first p ls from → r ≡ within n (option_map (λ k. d + k) found) → r ≡ first p (join_rows n w us ls) i
-    first-lower same d from found r e at start got out = out ∙ sym (first-join same ∙ rw (← e, got, start, at))
+    first_lower same d from found r e at start got out = out ∙ sym (first_join same ∙ rw (← e, got, start, at))

@@ -8,18 +8,18 @@ use Rattle.table.specs.Row.{Row}
 use Rattle.join.specs.Joined.{cut_row, join_rows}
 
 -- a row of v words is, cut to w of them, a row of w words
-cut-sound : (v w : ℕ) → w ≤ v → (row : Row) → SoundRow v row → SoundRow w (cut_row w row)
-cut-sound v w le row h = let e = h.wide in record { wide = length-take-le w row.words (omega arith); quiet = h.quiet }
+cut_sound : (v w : ℕ) → w ≤ v → (row : Row) → SoundRow v row → SoundRow w (cut_row w row)
+cut_sound v w le row h = let e = h.wide in record { wide = length-take-le w row.words (omega arith); quiet = h.quiet }
 
-pub join-sound : (v w : ℕ) (us ls : List Row) → Sound v us → Sound w ls → Sound (min v w) (join_rows 262144 (min v w) us ls)
+pub join_sound : (v w : ℕ) (us ls : List Row) → Sound v us → Sound w ls → Sound (min v w) (join_rows 262144 (min v w) us ls)
 unfolding join_rows
-join-sound v w us ls h k = record {
+join_sound v w us ls h k = record {
   some = let a = h.some in let b = k.some in omega arith;
   narrow = let a = h.narrow in omega arith;
   few = rw (length-take 262144 (map (cut_row (min v w)) (us ++ ls))) (omega arith);
   each = All-take (SoundRow (min v w)) 262144 (map (cut_row (min v w)) (us ++ ls))
       (All-map (SoundRow (min v w)) (cut_row (min v w)) (us ++ ls)
       (All-append (λ row. SoundRow (min v w) (cut_row (min v w) row)) us ls
-      (All-weaker (SoundRow v) (λ row. SoundRow (min v w) (cut_row (min v w) row)) (cut-sound v (min v w) (omega arith)) us h.each)
-      (All-weaker (SoundRow w) (λ row. SoundRow (min v w) (cut_row (min v w) row)) (cut-sound w (min v w) (omega arith)) ls k.each)));
+      (All-weaker (SoundRow v) (λ row. SoundRow (min v w) (cut_row (min v w) row)) (cut_sound v (min v w) (omega arith)) us h.each)
+      (All-weaker (SoundRow w) (λ row. SoundRow (min v w) (cut_row (min v w) row)) (cut_sound w (min v w) (omega arith)) ls k.each)));
 }

@@ -3,7 +3,7 @@ ghost use Rattle.std.specs.Prelude.{◌≡◌, ◌+◌, min, length};
 ghost use Rattle.std.specs.Option.{option_map};
 ghost use Rattle.table.specs.Calls.{on_cell, on_row};
 ghost use Rattle.join.specs.Joined.{joined_rows, joined_width, seat_of, within};
-ghost use Rattle.join.specs.Sound.{join-sound};
+ghost use Rattle.join.specs.Sound.{join_sound};
 
 use crate::joins::{Join, Seat};
 use table::{Marking, Marks, Purge, Search, Shape, Table, TableFault};
@@ -77,7 +77,7 @@ impl<U: Table, L: Table> Table for Join<U, L> {
 
     ghost rows = { joined_rows U.Table.width L.Table.width 262144 U.Table.rows L.Table.rows };
 
-    ghost sound = { λ j. join-sound (U.Table.width j.upper) (L.Table.width j.lower) (U.Table.rows j.upper) (L.Table.rows j.lower) (U.Table.sound j.upper) (L.Table.sound j.lower) };
+    ghost sound = { λ j. join_sound (U.Table.width j.upper) (L.Table.width j.lower) (U.Table.rows j.upper) (L.Table.rows j.lower) (U.Table.sound j.upper) (L.Table.sound j.lower) };
 
     ghost frame = { λ a b. U.Table.frame a.upper b.upper × L.Table.frame a.lower b.lower };
 

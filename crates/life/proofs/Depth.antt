@@ -27,39 +27,39 @@ length-ran : (q : Option Search) (rs : List Row) → length (ran q rs) ≡ lengt
 length-ran None rs = refl
 length-ran (Some q) rs = length-map rs (searched q)
 
-depth-row : (s : State) (c : RowCall) → length (after s (OnRow c)).rows ≡ length s.rows
-depth-row s (Read r g) = refl
-depth-row s (Write r g v) = length-granted (cell s r g) _ s.rows (length-change _ s.rows r)
-depth-row s (Marks r) = refl
-depth-row s (SetMarks r m) = length-granted (line s r) _ s.rows (length-change _ s.rows r)
-depth-row s (ReadAtHit g) = refl
-depth-row s (WriteAtHit g v) = length-granted (cell_at_hit s g) _ s.rows (length-change_at _ s.rows s.registers.found.address)
-depth-row s (ReadAtEmpty g) = refl
-depth-row s (WriteAtEmpty g v) = length-granted (cell_at_empty s g) _ s.rows (length-change_at _ s.rows s.registers.empty)
-depth-row s Append = length-granted (line_at_empty s) _ s.rows (length-change_at _ s.rows s.registers.empty)
-depth-row s (Purge k) = length-map s.rows _
-depth-row s ClearAccess = length-map s.rows _
-depth-row s Reset = length-map s.rows _
+depth_row : (s : State) (c : RowCall) → length (after s (OnRow c)).rows ≡ length s.rows
+depth_row s (Read r g) = refl
+depth_row s (Write r g v) = length-granted (cell s r g) _ s.rows (length-change _ s.rows r)
+depth_row s (Marks r) = refl
+depth_row s (SetMarks r m) = length-granted (line s r) _ s.rows (length-change _ s.rows r)
+depth_row s (ReadAtHit g) = refl
+depth_row s (WriteAtHit g v) = length-granted (cell_at_hit s g) _ s.rows (length-change_at _ s.rows s.registers.found.address)
+depth_row s (ReadAtEmpty g) = refl
+depth_row s (WriteAtEmpty g v) = length-granted (cell_at_empty s g) _ s.rows (length-change_at _ s.rows s.registers.empty)
+depth_row s Append = length-granted (line_at_empty s) _ s.rows (length-change_at _ s.rows s.registers.empty)
+depth_row s (Purge k) = length-map s.rows _
+depth_row s ClearAccess = length-map s.rows _
+depth_row s Reset = length-map s.rows _
 
-depth-port : (s : State) (c : PortCall) → length (after s (OnPort c)).rows ≡ length s.rows
-depth-port s (StartInput c n) = refl
-depth-port s (StartOutput c n) = refl
-depth-port s Stop = refl
-depth-port s (Block v) = length-granted (block_result s v) _ s.rows (length-ran (block_asks s.registers v s.registers.input.sequence) s.rows)
-depth-port s Word = refl
+depth_port : (s : State) (c : PortCall) → length (after s (OnPort c)).rows ≡ length s.rows
+depth_port s (StartInput c n) = refl
+depth_port s (StartOutput c n) = refl
+depth_port s Stop = refl
+depth_port s (Block v) = length-granted (block_result s v) _ s.rows (length-ran (block_asks s.registers v s.registers.input.sequence) s.rows)
+depth_port s Word = refl
 
-depth-after : (s : State) (c : Call) → length (after s c).rows ≡ length s.rows
-depth-after s (OnRow c) = depth-row s c
-depth-after s (SearchFor q) = length-granted (search_result s q) _ s.rows (length-map s.rows (searched q))
-depth-after s (OnWalk c) = refl
-depth-after s (OnSetUp c) = refl
-depth-after s (OnPort c) = depth-port s c
+depth_after : (s : State) (c : Call) → length (after s c).rows ≡ length s.rows
+depth_after s (OnRow c) = depth_row s c
+depth_after s (SearchFor q) = length-granted (search_result s q) _ s.rows (length-map s.rows (searched q))
+depth_after s (OnWalk c) = refl
+depth_after s (OnSetUp c) = refl
+depth_after s (OnPort c) = depth_port s c
 
-pub depth-lived : (s : State) (calls : List Call) → length (lived s calls).rows ≡ length s.rows
+pub depth_lived : (s : State) (calls : List Call) → length (lived s calls).rows ≡ length s.rows
 unfolding lived
-depth-lived s [] = refl
-depth-lived s (c ∷ cs) = depth-lived (after s c) cs ∙ depth-after s c
+depth_lived s [] = refl
+depth_lived s (c ∷ cs) = depth_lived (after s c) cs ∙ depth_after s c
 
-pub depth-worked : {X F : Type 0} (res : Result X F) (s : State) (calls : List Call) → length (granted res (lived s calls) s).rows ≡ length s.rows
-depth-worked (Ok x) s calls = depth-lived s calls
-depth-worked (Err f) s calls = refl
+pub depth_worked : {X F : Type 0} (res : Result X F) (s : State) (calls : List Call) → length (granted res (lived s calls) s).rows ≡ length s.rows
+depth_worked (Ok x) s calls = depth_lived s calls
+depth_worked (Err f) s calls = refl

@@ -58,40 +58,40 @@ setting : {X F : Type 0} (res : Result X F) (new g : Registers) (rs : List Row) 
 setting (Ok u) new g rs e = (inl refl, e)
 setting (Err f) new g rs e = kept rs g
 
-row-effect : (s : State) (c : RowCall) → Effect s (OnRow c)
-row-effect s (Read r g) = kept s.rows s.registers
-row-effect s (Write r g v) = changing (cell s r g) _ s.rows s.registers
-row-effect s (Marks r) = kept s.rows s.registers
-row-effect s (SetMarks r m) = changing (line s r) _ s.rows s.registers
-row-effect s (ReadAtHit g) = kept s.rows s.registers
-row-effect s (WriteAtHit g v) = changing (cell_at_hit s g) _ s.rows s.registers
-row-effect s (ReadAtEmpty g) = kept s.rows s.registers
-row-effect s (WriteAtEmpty g v) = changing (cell_at_empty s g) _ s.rows s.registers
-row-effect s Append = changing (line_at_empty s) _ s.rows s.registers
-row-effect s (Purge k) = tt
-row-effect s ClearAccess = (inr refl, refl)
-row-effect s Reset = tt
+row_effect : (s : State) (c : RowCall) → Effect s (OnRow c)
+row_effect s (Read r g) = kept s.rows s.registers
+row_effect s (Write r g v) = changing (cell s r g) _ s.rows s.registers
+row_effect s (Marks r) = kept s.rows s.registers
+row_effect s (SetMarks r m) = changing (line s r) _ s.rows s.registers
+row_effect s (ReadAtHit g) = kept s.rows s.registers
+row_effect s (WriteAtHit g v) = changing (cell_at_hit s g) _ s.rows s.registers
+row_effect s (ReadAtEmpty g) = kept s.rows s.registers
+row_effect s (WriteAtEmpty g v) = changing (cell_at_empty s g) _ s.rows s.registers
+row_effect s Append = changing (line_at_empty s) _ s.rows s.registers
+row_effect s (Purge k) = tt
+row_effect s ClearAccess = (inr refl, refl)
+row_effect s Reset = tt
 
 searching : {X F : Type 0} (res : Result X F) (q : Search) (rs : List Row) (new g : Registers) → address new ≡ first is_hit (map (searched q) rs) 0
     → Does (granted res (searches q) neither) rs g (granted res (map (searched q) rs) rs) (granted res new g)
 searching (Ok x) q rs new g e = (refl, e)
 searching (Err f) q rs new g e = kept rs g
 
-search-effect : (s : State) (q : Search) → Effect s (SearchFor q)
-search-effect s q = searching (search_result s q) q s.rows _ s.registers refl
+search_effect : (s : State) (q : Search) → Effect s (SearchFor q)
+search_effect s q = searching (search_result s q) q s.rows _ s.registers refl
 
-walk-effect : (s : State) (c : WalkCall) → Effect s (OnWalk c)
-walk-effect s Rewind = (refl, refl)
-walk-effect s NextHit = (refl, refl)
-walk-effect s FindEmpty = (inl refl, refl)
-walk-effect s NextEmpty = (inl refl, refl)
-walk-effect s TellRegisters = (inl refl, refl)
+walk_effect : (s : State) (c : WalkCall) → Effect s (OnWalk c)
+walk_effect s Rewind = (refl, refl)
+walk_effect s NextHit = (refl, refl)
+walk_effect s FindEmpty = (inl refl, refl)
+walk_effect s NextEmpty = (inl refl, refl)
+walk_effect s TellRegisters = (inl refl, refl)
 
-set-up-effect : (s : State) (c : SetUpCall) → Effect s (OnSetUp c)
-set-up-effect s (InputStep c n to) = setting (input_step_checked c n to s.registers) _ s.registers s.rows refl
-set-up-effect s (OutputStep c n to) = setting (output_step_checked c n to s.registers) _ s.registers s.rows refl
-set-up-effect s (Blocks c take start) = setting (blocks_checked c s.registers) _ s.registers s.rows refl
-set-up-effect s (BlockWidth bits) = setting (width_checked bits s.registers) _ s.registers s.rows refl
+set_up_effect : (s : State) (c : SetUpCall) → Effect s (OnSetUp c)
+set_up_effect s (InputStep c n to) = setting (input_step_checked c n to s.registers) _ s.registers s.rows refl
+set_up_effect s (OutputStep c n to) = setting (output_step_checked c n to s.registers) _ s.registers s.rows refl
+set_up_effect s (Blocks c take start) = setting (blocks_checked c s.registers) _ s.registers s.rows refl
+set_up_effect s (BlockWidth bits) = setting (width_checked bits s.registers) _ s.registers s.rows refl
 
 -- a block in an open sequence: within the steps, narrow enough, early enough, and whether a search runs
 blocking : (in-steps narrow early asks : Bool) (res : Result BlockAnswer PortFault) (late wide : PortFault) (q : Search) (rs : List Row) (g : Registers)
@@ -107,12 +107,12 @@ blocking true true true false res late wide q rs g left taken h e = (inl refl, e
 blocking true true true true (Ok a) late wide q rs g left taken h e = (refl, h (map (searched q) rs))
 blocking true true true true (Err f) late wide q rs g left taken h e = kept rs g
 
-block-effect : (w : ℕ) (rs : List Row) (g : Registers) (v : ℕ) (seq : Sequence InputPlace)
+block_effect : (w : ℕ) (rs : List Row) (g : Registers) (v : ℕ) (seq : Sequence InputPlace)
     → Does (granted (block_answer w g v seq) (if_any (block_asks g v seq)) neither) rs g (granted (block_answer w g v seq) (ran (block_asks g v seq) rs) rs)
     (granted (block_answer w g v seq) (block_left rs g v seq) g)
-block-effect w rs g v NotStarted = kept rs g
-block-effect w rs g v Ended = kept rs g
-block-effect w rs g v (Open place) =
+block_effect w rs g v NotStarted = kept rs g
+block_effect w rs g v Ended = kept rs g
+block_effect w rs g v (Open place) =
     blocking (ltb place.step 8) (ltb v (2 ^ bits_of g.setup.width)) (ltb place.block 64) (runs g place) (step_answer w g place)
     (BlocksGone place.step) (TooWide place.step) (asked (step_at g place) (filled g place v)) rs g
     (λ rs'. step_left rs' g place (filled g place v)) (with_input (taken_input place (filled g place v) g.input) g) (λ rs'. refl) refl
@@ -126,16 +126,16 @@ word_address g (Open place) = at (ltb place.step 8)
     at true = refl
     at false = refl
 
-port-effect : (s : State) (c : PortCall) → Effect s (OnPort c)
-port-effect s (StartInput c n) = setting (input_checked c n s.registers) _ s.registers s.rows refl
-port-effect s (StartOutput c n) = setting (output_checked c n s.registers) _ s.registers s.rows refl
-port-effect s Stop = (inl refl, refl)
-port-effect s (Block v) = block-effect s.width s.rows s.registers v s.registers.input.sequence
-port-effect s Word = setting (word_result s) (word_left s.registers s.registers.output) s.registers s.rows (word_address s.registers s.registers.output)
+port_effect : (s : State) (c : PortCall) → Effect s (OnPort c)
+port_effect s (StartInput c n) = setting (input_checked c n s.registers) _ s.registers s.rows refl
+port_effect s (StartOutput c n) = setting (output_checked c n s.registers) _ s.registers s.rows refl
+port_effect s Stop = (inl refl, refl)
+port_effect s (Block v) = block_effect s.width s.rows s.registers v s.registers.input.sequence
+port_effect s Word = setting (word_result s) (word_left s.registers s.registers.output) s.registers s.rows (word_address s.registers s.registers.output)
 
 pub effect : (s : State) (c : Call) → Does (event_of s c) s.rows s.registers (after s c).rows (after s c).registers
-effect s (OnRow c) = row-effect s c
-effect s (SearchFor q) = search-effect s q
-effect s (OnWalk c) = walk-effect s c
-effect s (OnSetUp c) = set-up-effect s c
-effect s (OnPort c) = port-effect s c
+effect s (OnRow c) = row_effect s c
+effect s (SearchFor q) = search_effect s q
+effect s (OnWalk c) = walk_effect s c
+effect s (OnSetUp c) = set_up_effect s c
+effect s (OnPort c) = port_effect s c

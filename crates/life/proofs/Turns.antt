@@ -6,34 +6,34 @@ use Rattle.registers.specs.declared.state.Registers.{Registers}
 use Rattle.std.proofs.lemmas.List.{take_more}
 use Rattle.table.specs.Row.{Row}
 
-pub same-state : (s t : State) → s.width ≡ t.width → s.rows ≡ t.rows → s.registers ≡ t.registers → s ≡ t
-same-state s t e f g =
+pub same_state : (s t : State) → s.width ≡ t.width → s.rows ≡ t.rows → s.registers ≡ t.registers → s ≡ t
+same_state s t e f g =
     ap (λ w. of w s.rows s.registers) e ∙ ap (λ rs. of t.width rs s.registers) f ∙ ap (of t.width t.rows) g
   where
     of : ℕ → List Row → Registers → State
     of w rs r = record { width = w; rows = rs; registers = r }
 
-lived-push : (s : State) (cs : List Call) (c : Call) → lived s (cs ++ c ∷ []) ≡ after (lived s cs) c
+lived_push : (s : State) (cs : List Call) (c : Call) → lived s (cs ++ c ∷ []) ≡ after (lived s cs) c
 unfolding lived
-lived-push s [] c = refl
-lived-push s (d ∷ cs) c = lived-push (after s d) cs c
+lived_push s [] c = refl
+lived_push s (d ∷ cs) c = lived_push (after s d) cs c
 
-replies-push : (s : State) (cs : List Call) (c : Call) → replies s (cs ++ c ∷ []) ≡ replies s cs ++ reply_to (lived s cs) c ∷ []
+replies_push : (s : State) (cs : List Call) (c : Call) → replies s (cs ++ c ∷ []) ≡ replies s cs ++ reply_to (lived s cs) c ∷ []
 unfolding lived replies
-replies-push s [] c = refl
-replies-push s (d ∷ cs) c = ap (λ rs. reply_to s d ∷ rs) (replies-push (after s d) cs c)
+replies_push s [] c = refl
+replies_push s (d ∷ cs) c = ap (λ rs. reply_to s d ∷ rs) (replies_push (after s d) cs c)
 
-pub lived-none : (s : State) (cs : List Call) → lived s (take 0 cs) ≡ s
+pub lived_none : (s : State) (cs : List Call) → lived s (take 0 cs) ≡ s
 unfolding lived
-lived-none s cs = refl
+lived_none s cs = refl
 
-pub replies-none : (s : State) (cs : List Call) → replies s (take 0 cs) ≡ []
+pub replies_none : (s : State) (cs : List Call) → replies s (take 0 cs) ≡ []
 unfolding replies
-replies-none s cs = refl
+replies_none s cs = refl
 
 module _ (s : State) (cs : List Call) (i : ℕ) (d : Call) (lt : i < length cs) where
-  pub lived-more : lived s (take (i + 1) cs) ≡ after (lived s (take i cs)) (get_or cs i d)
-  lived-more = ap (lived s) (take_more cs i d lt) ∙ lived-push s (take i cs) (get_or cs i d)
+  pub lived_more : lived s (take (i + 1) cs) ≡ after (lived s (take i cs)) (get_or cs i d)
+  lived_more = ap (lived s) (take_more cs i d lt) ∙ lived_push s (take i cs) (get_or cs i d)
 
-  pub replies-more : replies s (take (i + 1) cs) ≡ replies s (take i cs) ++ reply_to (lived s (take i cs)) (get_or cs i d) ∷ []
-  replies-more = ap (replies s) (take_more cs i d lt) ∙ replies-push s (take i cs) (get_or cs i d)
+  pub replies_more : replies s (take (i + 1) cs) ≡ replies s (take i cs) ++ reply_to (lived s (take i cs)) (get_or cs i d) ∷ []
+  replies_more = ap (replies s) (take_more cs i d lt) ∙ replies_push s (take i cs) (get_or cs i d)

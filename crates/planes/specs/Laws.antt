@@ -10,19 +10,19 @@ use Rattle.planes.specs.Rows.{Quiet, row_of, rows_of}
 use Rattle.planes.specs.declared.memory.Memory.{Memory}
 
 module _ (m : Memory) where
-  pub length-rows : length (rows_of m) ≡ 64
+  pub length_rows : length (rows_of m) ≡ 64
   unfolding rows_of
-  length-rows = length-map-range_with_len (row_of m) 0 64
+  length_rows = length-map-range_with_len (row_of m) 0 64
 
-  pub row_at-rows : (r : ℕ) → r < 64 → row_at (rows_of m) r ≡ row_of m r
+  pub row_at_rows : (r : ℕ) → r < 64 → row_at (rows_of m) r ≡ row_of m r
   unfolding rows_of
-  row_at-rows r h = get_or-map-range_with_len (row_of m) 0 64 r r blank h (omega arith)
+  row_at_rows r h = get_or-map-range_with_len (row_of m) 0 64 r r blank h (omega arith)
 
-  pub sound-rows : Quiet m.empty m.hit → Sound 2 (rows_of m)
-  sound-rows quiet = record {
+  pub sound_rows : Quiet m.empty m.hit → Sound 2 (rows_of m)
+  sound_rows quiet = record {
     some = omega arith;
     narrow = omega arith;
-    few = omega (arith, length-rows);
-    each = All-from_get_or (SoundRow 2) (rows_of m) blank (λ r h. let l : r < 64 = omega (arith, length-rows) in
-        rw (row_at-rows r l) (record { wide = refl; quiet = quiet r l }));
+    few = omega (arith, length_rows);
+    each = All-from_get_or (SoundRow 2) (rows_of m) blank (λ r h. let l : r < 64 = omega (arith, length_rows) in
+        rw (row_at_rows r l) (record { wide = refl; quiet = quiet r l }));
   }

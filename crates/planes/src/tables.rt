@@ -1,7 +1,7 @@
 // The plane table: its opening, and the calls of every table. All rows go at once, by operations on
 // whole planes and whole marks.
 ghost use Rattle.std.specs.Prelude.{◌≡◌, replicate};
-ghost use Rattle.planes.specs.Laws.{sound-rows};
+ghost use Rattle.planes.specs.Laws.{sound_rows};
 ghost use Rattle.planes.specs.Rows.{Laid, Quiet, opened, remarked, rows_of, vacant};
 
 use crate::bits;
@@ -41,7 +41,7 @@ impl Table for Planes {
 
     ghost rows = { λ t. rows_of t.memory };
 
-    ghost sound = { λ t. sound-rows t.memory t.quiet };
+    ghost sound = { λ t. sound_rows t.memory t.quiet };
 
     // After every call the memory is the one that the rows lay out, so that the rows pin each bit.
     ghost frame = { λ a b. Laid b.memory };

@@ -35,16 +35,16 @@ pub record Ahead (g : Registers) : Type 0 where
 
 pub record StaysAhead : Type 0 where
   pub at_first : Ahead fresh
-  pub by-input-step : (channel step : ℕ) (to : InputStep) (g : Registers) → input_step_checked channel step to g ≡ Ok tt → Ahead g → Ahead (input_step_set channel step to g)
-  pub by-output-step : (channel step : ℕ) (to : OutputStep) (g : Registers) → output_step_checked channel step to g ≡ Ok tt → Ahead g → Ahead (output_step_set channel step to g)
+  pub by_input_step : (channel step : ℕ) (to : InputStep) (g : Registers) → input_step_checked channel step to g ≡ Ok tt → Ahead g → Ahead (input_step_set channel step to g)
+  pub by_output_step : (channel step : ℕ) (to : OutputStep) (g : Registers) → output_step_checked channel step to g ≡ Ok tt → Ahead g → Ahead (output_step_set channel step to g)
   pub by_blocks : (channel take start : ℕ) (g : Registers) → Ahead g → Ahead (blocks_set channel take start g)
   pub by_width : (bits : ℕ) (g : Registers) → Ahead g → Ahead (width_set bits g)
-  pub by-input-start : (channel step : ℕ) (g : Registers) → input_checked channel step g ≡ Ok tt → Ahead g → Ahead (input_started channel step g)
-  pub by-output-start : (channel step : ℕ) (g : Registers) → output_checked channel step g ≡ Ok tt → Ahead g → Ahead (output_started channel step g)
-  pub by-stop : (g : Registers) → Ahead (stopped g)
-  pub by-search : (found : Found) (g : Registers) → Ahead g → Ahead (with_found found g)
-  pub by-empty-walk : (empty : Option ℕ) (g : Registers) → Ahead g → Ahead (with_empty empty g)
-  pub by-block : (rs : List Row) (value : ℕ) (g : Registers) → Ahead g → Ahead (block_left rs g value g.input.sequence)
+  pub by_input_start : (channel step : ℕ) (g : Registers) → input_checked channel step g ≡ Ok tt → Ahead g → Ahead (input_started channel step g)
+  pub by_output_start : (channel step : ℕ) (g : Registers) → output_checked channel step g ≡ Ok tt → Ahead g → Ahead (output_started channel step g)
+  pub by_stop : (g : Registers) → Ahead (stopped g)
+  pub by_search : (found : Found) (g : Registers) → Ahead g → Ahead (with_found found g)
+  pub by_empty_walk : (empty : Option ℕ) (g : Registers) → Ahead g → Ahead (with_empty empty g)
+  pub by_block : (rs : List Row) (value : ℕ) (g : Registers) → Ahead g → Ahead (block_left rs g value g.input.sequence)
   pub by_word : (g : Registers) → Ahead g → Ahead (word_left g g.output)
-  pub input-within : (g : Registers) (place : InputPlace) → Ahead g → g.input.sequence ≡ Open place → place.step < length (channel_in g).inputs
-  pub output-within : (g : Registers) (place : OutputPlace) → Ahead g → g.output ≡ Open place → place.step < length (channel_of g.setup place.channel).outputs
+  pub input_within : (g : Registers) (place : InputPlace) → Ahead g → g.input.sequence ≡ Open place → place.step < length (channel_in g).inputs
+  pub output_within : (g : Registers) (place : OutputPlace) → Ahead g → g.output ≡ Open place → place.step < length (channel_of g.setup place.channel).outputs

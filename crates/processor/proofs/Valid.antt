@@ -4,10 +4,10 @@ use Rattle.processor.specs.Commands.{became_valid}
 use Rattle.table.specs.Calls.{change, marks_at, row_at}
 use Rattle.table.specs.Row.{Row, marked}
 
-and-true : (b : Bool) → (b && true) ≡ b
-and-true true = refl
-and-true false = refl
+and_true : (b : Bool) → (b && true) ≡ b
+and_true true = refl
+and_true false = refl
 
-pub change-valid : (rs : List Row) (row : ℕ) → change row (marked (record { empty = false; access = (marks_at rs row).access })) rs ≡ change row became_valid rs
+pub change_valid : (rs : List Row) (row : ℕ) → change row (marked (record { empty = false; access = (marks_at rs row).access })) rs ≡ change row became_valid rs
 unfolding change
-change-valid rs row = ap (λ (h : Bool). set rs row (record { words = (row_at rs row).words; marks = record { empty = false; access = (marks_at rs row).access; hit = h } })) (and-true (marks_at rs row).hit)
+change_valid rs row = ap (λ (h : Bool). set rs row (record { words = (row_at rs row).words; marks = record { empty = false; access = (marks_at rs row).access; hit = h } })) (and_true (marks_at rs row).hit)

@@ -13,31 +13,31 @@ unfolding lived
 lived-append s [] ds = refl
 lived-append s (c ∷ cs) ds = lived-append (after s c) cs ds
 
-lived-ask : (s : State) (a : Ask) → lived s (call_in a) ≡ after_ask s a
+lived_ask : (s : State) (a : Ask) → lived s (call_in a) ≡ after_ask s a
 unfolding lived
-lived-ask s (Work c) = refl
-lived-ask s (Register r) = refl
-lived-ask s (Row n) = refl
-lived-ask s (Rows from count) = refl
-lived-ask s (Flags kind starts) = refl
+lived_ask s (Work c) = refl
+lived_ask s (Register r) = refl
+lived_ask s (Row n) = refl
+lived_ask s (Rows from count) = refl
+lived_ask s (Flags kind starts) = refl
 
-calls_of-push : (es : List Entry) (e : Entry) → calls_of (es ++ e ∷ []) ≡ calls_of es ++ call_in e.line.ask
+calls_of_push : (es : List Entry) (e : Entry) → calls_of (es ++ e ∷ []) ≡ calls_of es ++ call_in e.line.ask
 unfolding calls_of
-calls_of-push [] e = last (call_in e.line.ask)
+calls_of_push [] e = last (call_in e.line.ask)
   where
     last : (cs : List Call) → cs ++ [] ≡ cs
     last [] = refl
     last (c ∷ cs) = ap (λ xs. c ∷ xs) (last cs)
-calls_of-push (d ∷ es) e = rw append_assoc (ap (λ xs. call_in d.line.ask ++ xs) (calls_of-push es e))
+calls_of_push (d ∷ es) e = rw append_assoc (ap (λ xs. call_in d.line.ask ++ xs) (calls_of_push es e))
 
-pub asked-none : (s : State) (es : List Entry) → lived s (calls_of (take 0 es)) ≡ s
+pub asked_none : (s : State) (es : List Entry) → lived s (calls_of (take 0 es)) ≡ s
 unfolding lived calls_of
-asked-none s es = refl
+asked_none s es = refl
 
 module _ (s : State) (es : List Entry) (i : ℕ) (d : Entry) (lt : i < length es) where
-  pub asked-more : lived s (calls_of (take (i + 1) es)) ≡ after_ask (lived s (calls_of (take i es))) (get_or es i d).line.ask
-  asked-more =
+  pub asked_more : lived s (calls_of (take (i + 1) es)) ≡ after_ask (lived s (calls_of (take i es))) (get_or es i d).line.ask
+  asked_more =
       ap (λ xs. lived s (calls_of xs)) (take_more es i d lt)
-      ∙ ap (lived s) (calls_of-push (take i es) (get_or es i d))
+      ∙ ap (lived s) (calls_of_push (take i es) (get_or es i d))
       ∙ lived-append s (calls_of (take i es)) (call_in (get_or es i d).line.ask)
-      ∙ lived-ask (lived s (calls_of (take i es))) (get_or es i d).line.ask
+      ∙ lived_ask (lived s (calls_of (take i es))) (get_or es i d).line.ask

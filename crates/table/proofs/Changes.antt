@@ -9,10 +9,10 @@ module _ (f : Row → Row) (rs : List Row) (r : ℕ) where
   unfolding change
   length-change = length-set rs r (f (row_at rs r))
 
-  pub row_at-change-same : r < length rs → row_at (change r f rs) r ≡ f (row_at rs r)
+  pub row_at-change_same : r < length rs → row_at (change r f rs) r ≡ f (row_at rs r)
   unfolding change
-  row_at-change-same h = get_or-set_same rs r (f (row_at rs r)) blank h
+  row_at-change_same h = get_or-set_same rs r (f (row_at rs r)) blank h
 
-  pub row_at-change-other : (k : ℕ) → k ≢ r → row_at (change r f rs) k ≡ row_at rs k
+  pub row_at-change_other : (k : ℕ) → k ≢ r → row_at (change r f rs) k ≡ row_at rs k
   unfolding change
-  row_at-change-other k h = get_or-set_other rs r k (f (row_at rs r)) blank h
+  row_at-change_other k h = get_or-set_other rs r k (f (row_at rs r)) blank h

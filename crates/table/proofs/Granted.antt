@@ -4,10 +4,10 @@ use Rattle.std.proofs.lemmas.Bool.{true≢false}
 use Rattle.table.specs.Calls.{granted}
 
 module _ {X Y F : Type 0} where
-  pub granted-new : (r : Result Y F) (new old : X) → is_err r ≡ false → new ≡ granted r new old
-  granted-new (Ok y) new old e = refl
-  granted-new (Err f) new old e = absurd (true≢false e)
+  pub granted_new : (r : Result Y F) (new old : X) → is_err r ≡ false → new ≡ granted r new old
+  granted_new (Ok y) new old e = refl
+  granted_new (Err f) new old e = absurd (true≢false e)
 
-  pub granted-old : (r : Result Y F) (new old : X) → is_err r ≡ true → old ≡ granted r new old
-  granted-old (Ok y) new old e = absurd (true≢false (sym e))
-  granted-old (Err f) new old e = refl
+  pub granted_old : (r : Result Y F) (new old : X) → is_err r ≡ true → old ≡ granted r new old
+  granted_old (Ok y) new old e = absurd (true≢false (sym e))
+  granted_old (Err f) new old e = refl

@@ -10,18 +10,18 @@ module _ {X Y : Type 0} (e : TableFault) (x : X) (y : Y) where
   checked true f h = let z : ◌≡◌ {A = ℕ} 0 1 = cc in absurd (omega arith)
   checked false f h = let same : e ≡ f = cc in ap Err same
 
-  pub segment-alike : (w s : ℕ) → Err e ≡ on_segment w s x → Err e ≡ on_segment w s y
+  pub segment_alike : (w s : ℕ) → Err e ≡ on_segment w s x → Err e ≡ on_segment w s y
   unfolding on_segment
-  segment-alike w s h = checked (ltb s w) (NoSegment s) h
+  segment_alike w s h = checked (ltb s w) (NoSegment s) h
 
-  pub row-alike : (rs : List Row) (r : ℕ) → Err e ≡ on_row rs r x → Err e ≡ on_row rs r y
+  pub row_alike : (rs : List Row) (r : ℕ) → Err e ≡ on_row rs r x → Err e ≡ on_row rs r y
   unfolding on_row
-  row-alike rs r h = checked (ltb r (length rs)) (NoRow r) h
+  row_alike rs r h = checked (ltb r (length rs)) (NoRow r) h
 
-  pub cell-alike : (w : ℕ) (rs : List Row) (r s : ℕ) → Err e ≡ on_cell w rs r s x → Err e ≡ on_cell w rs r s y
+  pub cell_alike : (w : ℕ) (rs : List Row) (r s : ℕ) → Err e ≡ on_cell w rs r s x → Err e ≡ on_cell w rs r s y
   unfolding on_cell
-  cell-alike w rs r s h = at (ltb r (length rs)) h
+  cell_alike w rs r s h = at (ltb r (length rs)) h
     where
       at : (b : Bool) → Err e ≡ cond b (on_segment w s x) (Err (NoRow r)) → Err e ≡ cond b (on_segment w s y) (Err (NoRow r))
-      at true k = segment-alike w s k
+      at true k = segment_alike w s k
       at false k = let same : e ≡ NoRow r = cc in ap Err same

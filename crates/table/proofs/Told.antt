@@ -9,9 +9,9 @@ module _ {X : Type 0} where
   unfolding on_row
   row_told rs r x y e = (grind (arith, nat_tests), grind (arith, nat_tests))
 
-  pub segment-told : (w s : ℕ) (x y : X) → Ok y ≡ on_segment w s x → (s < w) × (y ≡ x)
+  pub segment_told : (w s : ℕ) (x y : X) → Ok y ≡ on_segment w s x → (s < w) × (y ≡ x)
   unfolding on_segment
-  segment-told w s x y e = (grind (arith, nat_tests), grind (arith, nat_tests))
+  segment_told w s x y e = (grind (arith, nat_tests), grind (arith, nat_tests))
 
   pub cell-told : (w : ℕ) (rs : List Row) (r s : ℕ) (x y : X) → Ok y ≡ on_cell w rs r s x → (r < length rs) × (s < w) × (y ≡ x)
   unfolding on_cell on_segment

@@ -25,57 +25,57 @@ pub record Gives {X : Type 0} (line : List ℕ) (value : X) (rest : List ℕ) (r
 pub at_front : (before rest : List ℕ) → At (before ++ rest) (length before) rest
 at_front before rest = record { left = drop_at before rest (length before) refl; long = sym (length-append before rest) }
 
-pub at-past : (line : List ℕ) (at : ℕ) (w rest : List ℕ) → At line at (w ++ rest) → At line (at + length w) rest
-at-past line at w rest h = record {
+pub at_past : (line : List ℕ) (at : ℕ) (w rest : List ℕ) → At line at (w ++ rest) → At line (at + length w) rest
+at_past line at w rest h = record {
   left = sym (drop-drop (length w) at line) ∙ ap (drop (length w)) h.left ∙ drop_at w rest (length w) refl;
   long = omega (arith, h.long, length-append w rest);
 }
 
-leading-letters : (w rest : List ℕ) → letters w ≡ true → EndsWord rest → prefix_len is_letter (w ++ rest) ≡ length w
-leading-letters [] rest h e = e
-leading-letters (b ∷ w) rest h e =
+leading_letters : (w rest : List ℕ) → letters w ≡ true → EndsWord rest → prefix_len is_letter (w ++ rest) ≡ length w
+leading_letters [] rest h e = e
+leading_letters (b ∷ w) rest h e =
     let hs = and_parts (is_letter b) (letters w) h in
-    cond-true _ _ _ hs.0 ∙ omega (arith, leading-letters w rest hs.1 e)
+    cond-true _ _ _ hs.0 ∙ omega (arith, leading_letters w rest hs.1 e)
 
 module _ (line : List ℕ) (at : ℕ) (w rest : List ℕ) (h : At line at (w ++ rest)) (good : letters w ≡ true) (ends : EndsWord rest) where
   run : prefix_len is_letter (drop at line) ≡ length w
-  run = ap (prefix_len is_letter) h.left ∙ leading-letters w rest good ends
+  run = ap (prefix_len is_letter) h.left ∙ leading_letters w rest good ends
 
-  pub word-end-is : word_end line at ≡ at + length w
-  word-end-is = ap (λ n. at + n) run
+  pub word_end_is : word_end line at ≡ at + length w
+  word_end_is = ap (λ n. at + n) run
 
-  pub word-at-is : word_at line at ≡ w
-  word-at-is = ap (λ n. take n (drop at line)) run ∙ ap (take (length w)) h.left ∙ take_at w rest (length w) refl
+  pub word_at_is : word_at line at ≡ w
+  word_at_is = ap (λ n. take n (drop at line)) run ∙ ap (take (length w)) h.left ∙ take_at w rest (length w) refl
 
-letter-no-blank : (b : ℕ) → is_letter b ≡ true → is_blank b ≡ false
-letter-no-blank b h = not-true (is_blank b) (and_parts (not (is_blank b)) (not (eqb b 61) && not (eqb b 35)) h).0
+letter_no_blank : (b : ℕ) → is_letter b ≡ true → is_blank b ≡ false
+letter_no_blank b h = not-true (is_blank b) (and_parts (not (is_blank b)) (not (eqb b 61) && not (eqb b 35)) h).0
 
-no-blank : (w rest : List ℕ) → 0 < length w → letters w ≡ true → prefix_len is_blank (w ++ rest) ≡ 0
-no-blank [] rest some h = absurd (omega arith)
-no-blank (b ∷ w) rest some h = cond-false _ _ _ (letter-no-blank b (and_parts (is_letter b) (letters w) h).0)
+no_blank : (w rest : List ℕ) → 0 < length w → letters w ≡ true → prefix_len is_blank (w ++ rest) ≡ 0
+no_blank [] rest some h = absurd (omega arith)
+no_blank (b ∷ w) rest some h = cond-false _ _ _ (letter_no_blank b (and_parts (is_letter b) (letters w) h).0)
 
 -- a word stands here, or behind a space
-pub start-here : (line : List ℕ) (at : ℕ) (w rest : List ℕ) → At line at (w ++ rest) → 0 < length w → letters w ≡ true → word_start line at ≡ at
-start-here line at w rest h some good = omega (arith, ap (prefix_len is_blank) h.left ∙ no-blank w rest some good)
+pub start_here : (line : List ℕ) (at : ℕ) (w rest : List ℕ) → At line at (w ++ rest) → 0 < length w → letters w ≡ true → word_start line at ≡ at
+start_here line at w rest h some good = omega (arith, ap (prefix_len is_blank) h.left ∙ no_blank w rest some good)
 
-pub start-next : (line : List ℕ) (at : ℕ) (w rest : List ℕ) → At line at (32 ∷ (w ++ rest)) → 0 < length w → letters w ≡ true → word_start line at ≡ at + 1
-start-next line at w rest h some good = ap (λ n. at + n) (ap (prefix_len is_blank) h.left ∙ ap (λ n. 1 + n) (no-blank w rest some good))
+pub start_next : (line : List ℕ) (at : ℕ) (w rest : List ℕ) → At line at (32 ∷ (w ++ rest)) → 0 < length w → letters w ≡ true → word_start line at ≡ at + 1
+start_next line at w rest h some good = ap (λ n. at + n) (ap (prefix_len is_blank) h.left ∙ ap (λ n. 1 + n) (no_blank w rest some good))
 
 pub at_next : (line : List ℕ) (at : ℕ) (rest : List ℕ) → At line at (32 ∷ rest) → At line (at + 1) rest
-at_next line at rest h = at-past line at (32 ∷ []) rest h
+at_next line at rest h = at_past line at (32 ∷ []) rest h
 
 -- a number is read where it stands, and behind a space
 module _ (most : ℕ) (expected : Expected) (line : List ℕ) (at start : ℕ) (w rest : List ℕ) (n : ℕ) where
-  number-at : word_start line at ≡ start → At line start (w ++ rest) → letters w ≡ true → EndsWord rest → number_of most w ≡ Some n → number_at most expected line at ≡ Ok (n, start + length w)
-  number-at s h good ends reads =
-      ap (λ k. or_fault k expected (word_end line k) (number_of most (word_at line k))) s ∙ ap (λ k. or_fault start expected k (number_of most (word_at line start))) (word-end-is line start w rest h good ends) ∙ ap (λ v. or_fault start expected (start + length w) (number_of most v)) (word-at-is line start w rest h good ends) ∙ ap (or_fault start expected (start + length w)) reads
+  number_at_lem : word_start line at ≡ start → At line start (w ++ rest) → letters w ≡ true → EndsWord rest → number_of most w ≡ Some n → number_at most expected line at ≡ Ok (n, start + length w)
+  number_at_lem s h good ends reads =
+      ap (λ k. or_fault k expected (word_end line k) (number_of most (word_at line k))) s ∙ ap (λ k. or_fault start expected k (number_of most (word_at line start))) (word_end_is line start w rest h good ends) ∙ ap (λ v. or_fault start expected (start + length w) (number_of most v)) (word_at_is line start w rest h good ends) ∙ ap (or_fault start expected (start + length w)) reads
 
-pub number-here : (most : ℕ) (expected : Expected) (line : List ℕ) (at : ℕ) (w rest : List ℕ) (n : ℕ) → At line at (w ++ rest) → 0 < length w → letters w ≡ true → EndsWord rest → number_of most w ≡ Some n → number_at most expected line at ≡ Ok (n, at + length w)
-number-here most expected line at w rest n h some good ends reads = number-at most expected line at at w rest n (start-here line at w rest h some good) h good ends reads
+pub number_here : (most : ℕ) (expected : Expected) (line : List ℕ) (at : ℕ) (w rest : List ℕ) (n : ℕ) → At line at (w ++ rest) → 0 < length w → letters w ≡ true → EndsWord rest → number_of most w ≡ Some n → number_at most expected line at ≡ Ok (n, at + length w)
+number_here most expected line at w rest n h some good ends reads = number_at_lem most expected line at at w rest n (start_here line at w rest h some good) h good ends reads
 
-pub number-next : (most : ℕ) (expected : Expected) (line : List ℕ) (at : ℕ) (w rest : List ℕ) (n : ℕ) → At line at (32 ∷ (w ++ rest)) → 0 < length w → letters w ≡ true → EndsWord rest → number_of most w ≡ Some n → Gives line n rest (number_at most expected line at)
-number-next most expected line at w rest n h some good ends reads = record {
+pub number_next : (most : ℕ) (expected : Expected) (line : List ℕ) (at : ℕ) (w rest : List ℕ) (n : ℕ) → At line at (32 ∷ (w ++ rest)) → 0 < length w → letters w ≡ true → EndsWord rest → number_of most w ≡ Some n → Gives line n rest (number_at most expected line at)
+number_next most expected line at w rest n h some good ends reads = record {
   end = at + 1 + length w;
-  is = number-at most expected line at (at + 1) w rest n (start-next line at w rest h some good) (at_next line at (w ++ rest) h) good ends reads;
-  on = at-past line (at + 1) w rest (at_next line at (w ++ rest) h);
+  is = number_at_lem most expected line at (at + 1) w rest n (start_next line at w rest h some good) (at_next line at (w ++ rest) h) good ends reads;
+  on = at_past line (at + 1) w rest (at_next line at (w ++ rest) h);
 }

@@ -8,8 +8,8 @@ use Rattle.table.specs.declared.parts.Marks.{Marks}
 pub byte_of-marks_of : (b : ℕ) → proper b ≡ true → byte_of (marks_of b) ≡ b
 byte_of-marks_of b h = sym (eqb-true b _ (and_parts (b == byte_of (marks_of b)) _ h).0)
 
-pub quiet-marks_of : (b : ℕ) → proper b ≡ true → ((marks_of b).empty && (marks_of b).hit) ≡ false
-quiet-marks_of b h = not-true _ (and_parts (b == byte_of (marks_of b)) _ h).1
+pub quiet_marks_of : (b : ℕ) → proper b ≡ true → ((marks_of b).empty && (marks_of b).hit) ≡ false
+quiet_marks_of b h = not-true _ (and_parts (b == byte_of (marks_of b)) _ h).1
 
 pub marks_of-byte_of : (m : Marks) → marks_of (byte_of m) ≡ m
 marks_of-byte_of m = each m.empty m.access m.hit
@@ -42,10 +42,10 @@ proper-byte_of m = each m.empty m.access m.hit
 every : (Bool → Bool) → Bool
 every p = p true && p false
 
-every-at : (p : Bool → Bool) → every p ≡ true → (b : Bool) → p b ≡ true
+every_at : (p : Bool → Bool) → every p ≡ true → (b : Bool) → p b ≡ true
 unfolding every
-every-at p h true = (and_parts (p true) (p false) h).0
-every-at p h false = (and_parts (p true) (p false) h).1
+every_at p h true = (and_parts (p true) (p false) h).0
+every_at p h false = (and_parts (p true) (p false) h).1
 
 -- the byte that a search makes of a byte b, where the row agrees or not
 abbrev pub byte_searched : ℕ → Bool → Bool → Bool → ℕ
@@ -63,14 +63,14 @@ abbrev kept : Bool → Bool → Bool → Bool → Bool → Bool → Bool
 kept e a h head agrees access =
     (byte_searched (byte_of record { empty = e; access = a; hit = h }) head agrees access == byte_of (marks_then record { empty = e; access = a; hit = h } head agrees access))
 
-kept-all : (e a h head agrees access : Bool) → kept e a h head agrees access ≡ true
+kept_all : (e a h head agrees access : Bool) → kept e a h head agrees access ≡ true
 unfolding every
-kept-all e a h head agrees access =
-    every-at (λ x. kept e a h head agrees x) (every-at (λ y. every (λ x. kept e a h head y x)) (every-at (λ z. every (λ y. every (λ x. kept e a h z y x)))
-    (every-at (λ u. every (λ z. every (λ y. every (λ x. kept e a u z y x)))) (every-at (λ v. every (λ u. every (λ z. every (λ y. every (λ x. kept e v u z y x)))))
-    (every-at (λ w. every (λ v. every (λ u. every (λ z. every (λ y. every (λ x. kept w v u z y x)))))) refl e) a) h) head) agrees) access
+kept_all e a h head agrees access =
+    every_at (λ x. kept e a h head agrees x) (every_at (λ y. every (λ x. kept e a h head y x)) (every_at (λ z. every (λ y. every (λ x. kept e a h z y x)))
+    (every_at (λ u. every (λ z. every (λ y. every (λ x. kept e a u z y x)))) (every_at (λ v. every (λ u. every (λ z. every (λ y. every (λ x. kept e v u z y x)))))
+    (every_at (λ w. every (λ v. every (λ u. every (λ z. every (λ y. every (λ x. kept w v u z y x)))))) refl e) a) h) head) agrees) access
 
-pub byte-searched : (b : ℕ) (head agrees access : Bool) → proper b ≡ true → byte_searched b head agrees access ≡ byte_of (marks_then (marks_of b) head agrees access)
-byte-searched b head agrees access h =
+pub byte_searched_lem : (b : ℕ) (head agrees access : Bool) → proper b ≡ true → byte_searched b head agrees access ≡ byte_of (marks_then (marks_of b) head agrees access)
+byte_searched_lem b head agrees access h =
     ap (λ x. byte_searched x head agrees access) (sym (byte_of-marks_of b h))
-    ∙ eqb-true _ _ (kept-all (marks_of b).empty (marks_of b).access (marks_of b).hit head agrees access)
+    ∙ eqb-true _ _ (kept_all (marks_of b).empty (marks_of b).access (marks_of b).hit head agrees access)

@@ -1,8 +1,8 @@
 -- The memory of a device is the rows laid out, and what lies past them. Assumes nothing.
 use Rattle.std.specs.Prelude.{◌≡◌, ℕ, zero, suc, ◌*◌, ◌<◌, ◌≤◌, true, List, [], ◌∷◌, ◌++◌, length, take, drop, slice_index, slice_index_or, refl}
 use Rattle.std.proofs.Common.{sym, ap, ◌∙◌, suc-mul, zero-mul, add-one, arith, take-add}
-use Rattle.device.specs.Proved.Marks.{byte_of-marks_of, quiet-marks_of}
-use Rattle.device.specs.Proved.Rows.{length-rows, row_at-rows, rows_apart}
+use Rattle.device.specs.Proved.Marks.{byte_of-marks_of, quiet_marks_of}
+use Rattle.device.specs.Proved.Rows.{length_rows, row_at_rows, rows_apart}
 use Rattle.device.specs.Layout.{byte_of, proper, row_in, rows_of}
 use Rattle.device.specs.Rows.{Frame, bytes_of, rows_in, words_of}
 use Rattle.device.specs.declared.device.Device.{Device}
@@ -21,23 +21,23 @@ words_more : (rs : List Row) (row : Row) → words_of (rs ++ row ∷ []) ≡ wor
 unfolding words_of
 words_more rs row = sym (flat_map_more (λ r. r.words) [] rs row)
 
-pub words_of-rows : (ws ms : List ℕ) (k d : ℕ) → words_of (rows_of ws ms k d) ≡ take (d * k) ws
+pub words_of_rows : (ws ms : List ℕ) (k d : ℕ) → words_of (rows_of ws ms k d) ≡ take (d * k) ws
 unfolding words_of rows_of
-words_of-rows ws ms k zero = rw (zero-mul k)
-words_of-rows ws ms k (suc d) =
+words_of_rows ws ms k zero = rw (zero-mul k)
+words_of_rows ws ms k (suc d) =
     ap words_of (rows_more ws ms k d) ∙ words_more (rows_of ws ms k d) (row_in ws ms k d)
-    ∙ ap (λ xs. xs ++ take k (drop (d * k) ws)) (words_of-rows ws ms k d)
+    ∙ ap (λ xs. xs ++ take k (drop (d * k) ws)) (words_of_rows ws ms k d)
     ∙ sym (rw (suc-mul d k) (take-add (d * k) k ws))
 
-pub bytes_of-rows : (ws ms : List ℕ) (k d : ℕ) → d ≤ length ms → ((r : ℕ) → r < d → proper (slice_index ms r) ≡ true)
+pub bytes_of_rows : (ws ms : List ℕ) (k d : ℕ) → d ≤ length ms → ((r : ℕ) → r < d → proper (slice_index ms r) ≡ true)
     → bytes_of (rows_of ws ms k d) ≡ take d ms
 unfolding bytes_of
-bytes_of-rows ws ms k d held tidy = ext_get_or 0 _ _
-    (length-map (rows_of ws ms k d) _ ∙ length-rows ws ms k d ∙ sym (length-take-le d ms held))
+bytes_of_rows ws ms k d held tidy = ext_get_or 0 _ _
+    (length-map (rows_of ws ms k d) _ ∙ length_rows ws ms k d ∙ sym (length-take-le d ms held))
     (λ r h. let low : r < length (rows_of ws ms k d) = rw (length-map (rows_of ws ms k d) (λ (row : Row). byte_of row.marks)) at h in
-    let lt : r < d = rw (length-rows ws ms k d) at low in
+    let lt : r < d = rw (length_rows ws ms k d) at low in
     get_or-map (λ row. byte_of row.marks) (rows_of ws ms k d) r blank 0 low
-    ∙ ap (λ row. byte_of row.marks) (row_at-rows ws ms k d r lt)
+    ∙ ap (λ row. byte_of row.marks) (row_at_rows ws ms k d r lt)
     ∙ byte_of-marks_of (slice_index ms r) (tidy r lt) ∙ sym (get_or-take d ms r 0 lt))
 
 -- what has the same lenders, the same shape and the same cells past the rows
@@ -50,10 +50,10 @@ framed a b name_words name_marks width depth words marks = record {
   width = width;
   depth = depth;
   words = sym (take-append-drop (b.depth * b.width) b.words.now)
-      ∙ ap (λ xs. xs ++ drop (b.depth * b.width) b.words.now) (sym (words_of-rows b.words.now b.marks.now b.width b.depth))
+      ∙ ap (λ xs. xs ++ drop (b.depth * b.width) b.words.now) (sym (words_of_rows b.words.now b.marks.now b.width b.depth))
       ∙ ap (λ xs. words_of (rows_in b) ++ xs) words;
   marks = sym (take-append-drop b.depth b.marks.now)
-      ∙ ap (λ xs. xs ++ drop b.depth b.marks.now) (sym (bytes_of-rows b.words.now b.marks.now b.width b.depth b.marked b.tidy))
+      ∙ ap (λ xs. xs ++ drop b.depth b.marks.now) (sym (bytes_of_rows b.words.now b.marks.now b.width b.depth b.marked b.tidy))
       ∙ ap (λ xs. bytes_of (rows_in b) ++ xs) marks;
 }
 
@@ -61,35 +61,35 @@ pub frame_same : (a : Device) → Frame a a
 frame_same a = framed a a refl refl refl refl refl refl
 
 -- the cells past the rows are those of a
-rest-words : (a b : Device) → Frame a b → drop (b.depth * b.width) b.words.now ≡ drop (a.depth * a.width) a.words.now
-rest-words a b f =
+rest_words : (a b : Device) → Frame a b → drop (b.depth * b.width) b.words.now ≡ drop (a.depth * a.width) a.words.now
+rest_words a b f =
     ap (drop (b.depth * b.width)) f.words
     ∙ drop_at (words_of (rows_in b)) _ (b.depth * b.width)
-    (ap length (words_of-rows b.words.now b.marks.now b.width b.depth) ∙ length-take-le (b.depth * b.width) b.words.now b.worded)
+    (ap length (words_of_rows b.words.now b.marks.now b.width b.depth) ∙ length-take-le (b.depth * b.width) b.words.now b.worded)
 
-rest-marks : (a b : Device) → Frame a b → drop b.depth b.marks.now ≡ drop a.depth a.marks.now
-rest-marks a b f =
+rest_marks : (a b : Device) → Frame a b → drop b.depth b.marks.now ≡ drop a.depth a.marks.now
+rest_marks a b f =
     ap (drop b.depth) f.marks
     ∙ drop_at (bytes_of (rows_in b)) _ b.depth
-    (ap length (bytes_of-rows b.words.now b.marks.now b.width b.depth b.marked b.tidy) ∙ length-take-le b.depth b.marks.now b.marked)
+    (ap length (bytes_of_rows b.words.now b.marks.now b.width b.depth b.marked b.tidy) ∙ length-take-le b.depth b.marks.now b.marked)
 
-pub frame-chain : (a b c : Device) → Frame a b → Frame b c → Frame a c
-frame-chain a b c f g = framed a c (g.lent_words ∙ f.lent_words) (g.lent_marks ∙ f.lent_marks) (g.width ∙ f.width) (g.depth ∙ f.depth)
-    (rest-words b c g ∙ rest-words a b f) (rest-marks b c g ∙ rest-marks a b f)
+pub frame_chain : (a b c : Device) → Frame a b → Frame b c → Frame a c
+frame_chain a b c f g = framed a c (g.lent_words ∙ f.lent_words) (g.lent_marks ∙ f.lent_marks) (g.width ∙ f.width) (g.depth ∙ f.depth)
+    (rest_words b c g ∙ rest_words a b f) (rest_marks b c g ∙ rest_marks a b f)
 
-few-cells : (d : Device) → d.depth ≤ 8192
-few-cells d = d.few
+few_cells : (d : Device) → d.depth ≤ 8192
+few_cells d = d.few
 
-sound-row : (d : Device) (r : ℕ) → r < d.depth → SoundRow d.width (slice_index_or (rows_in d) r blank)
-sound-row d r h = rw (row_at-rows d.words.now d.marks.now d.width d.depth r h) record {
+sound_row : (d : Device) (r : ℕ) → r < d.depth → SoundRow d.width (slice_index_or (rows_in d) r blank)
+sound_row d r h = rw (row_at_rows d.words.now d.marks.now d.width d.depth r h) record {
   wide = length-take-le d.width (drop (r * d.width) d.words.now) (rw length-drop (omega (arith, rows_apart r d.depth d.width h, d.worded)));
-  quiet = quiet-marks_of (slice_index d.marks.now r) (d.tidy r h);
+  quiet = quiet_marks_of (slice_index d.marks.now r) (d.tidy r h);
 }
 
-pub sound-rows : (d : Device) → Sound d.width (rows_in d)
-sound-rows d = record {
+pub sound_rows : (d : Device) → Sound d.width (rows_in d)
+sound_rows d = record {
   some = d.some;
   narrow = d.narrow;
-  few = rw (length-rows d.words.now d.marks.now d.width d.depth) (omega (arith, few-cells d));
-  each = All-from_get_or (SoundRow d.width) (rows_in d) blank (λ r h. sound-row d r (rw (length-rows d.words.now d.marks.now d.width d.depth) at h));
+  few = rw (length_rows d.words.now d.marks.now d.width d.depth) (omega (arith, few_cells d));
+  each = All-from_get_or (SoundRow d.width) (rows_in d) blank (λ r h. sound_row d r (rw (length_rows d.words.now d.marks.now d.width d.depth) at h));
 }

@@ -6,26 +6,26 @@ use Rattle.std.proofs.lemmas.Nat.{mul-le}
 use Rattle.std.proofs.lemmas.List.FromFn.{length-map-range_with_len, get_or-map-range_with_len}
 use Rattle.std.proofs.lemmas.List.{ext_get_or, get_or-drop, get_or-map, get_or-take, length-map}
 use Rattle.std.proofs.lemmas.Bool.{cases_eq}
-use Rattle.table.proofs.Checks.{cell-granted, cell_row, cell-segment, row-granted, row-refused}
-use Rattle.table.proofs.Changes.{length-change, row_at-change-same, row_at-change-other}
+use Rattle.table.proofs.Checks.{cell-granted, cell_row, cell_segment, row_granted, row_refused}
+use Rattle.table.proofs.Changes.{length-change, row_at-change_same, row_at-change_other}
 use Rattle.table.specs.Calls.{change, marks_at, on_cell, on_row, row_at, word_at}
 use Rattle.table.specs.Row.{Row, blank, word_in}
 use Rattle.table.specs.declared.faults.TableFault.TheVariants.{Row as NoRow, Segment as NoSegment}
 
-pub length-rows : (ws ms : List ℕ) (k d : ℕ) → length (rows_of ws ms k d) ≡ d
+pub length_rows : (ws ms : List ℕ) (k d : ℕ) → length (rows_of ws ms k d) ≡ d
 unfolding rows_of
-length-rows ws ms k d = length-map-range_with_len (row_in ws ms k) 0 d
+length_rows ws ms k d = length-map-range_with_len (row_in ws ms k) 0 d
 
-pub row_at-rows : (ws ms : List ℕ) (k d r : ℕ) → r < d → row_at (rows_of ws ms k d) r ≡ row_in ws ms k r
+pub row_at_rows : (ws ms : List ℕ) (k d r : ℕ) → r < d → row_at (rows_of ws ms k d) r ≡ row_in ws ms k r
 unfolding rows_of
-row_at-rows ws ms k d r h = get_or-map-range_with_len (row_in ws ms k) 0 d r r blank h (omega arith)
+row_at_rows ws ms k d r h = get_or-map-range_with_len (row_in ws ms k) 0 d r r blank h (omega arith)
 
-pub word_at-rows : (ws ms : List ℕ) (k d r s : ℕ) → r < d → s < k → word_at (rows_of ws ms k d) r s ≡ slice_index ws (r * k + s)
-word_at-rows ws ms k d r s h in_row =
-    ap (λ row. word_in row s) (row_at-rows ws ms k d r h) ∙ get_or-take k (drop (r * k) ws) s 0 in_row ∙ get_or-drop (r * k) ws s 0
+pub word_at_rows : (ws ms : List ℕ) (k d r s : ℕ) → r < d → s < k → word_at (rows_of ws ms k d) r s ≡ slice_index ws (r * k + s)
+word_at_rows ws ms k d r s h in_row =
+    ap (λ row. word_in row s) (row_at_rows ws ms k d r h) ∙ get_or-take k (drop (r * k) ws) s 0 in_row ∙ get_or-drop (r * k) ws s 0
 
-pub marks_at-rows : (ws ms : List ℕ) (k d r : ℕ) → r < d → marks_at (rows_of ws ms k d) r ≡ marks_of (slice_index ms r)
-marks_at-rows ws ms k d r h = ap (λ row. row.marks) (row_at-rows ws ms k d r h)
+pub marks_at_rows : (ws ms : List ℕ) (k d r : ℕ) → r < d → marks_at (rows_of ws ms k d) r ≡ marks_of (slice_index ms r)
+marks_at_rows ws ms k d r h = ap (λ row. row.marks) (row_at_rows ws ms k d r h)
 
 -- a row lies wholly before or behind another
 pub rows_apart : (j r k : ℕ) → j < r → j * k + k ≤ r * k
@@ -34,42 +34,42 @@ rows_apart j r k h = let e = suc-mul j k in omega (arith, mul-le (suc j) k r k (
 -- the checks of a row and a segment
 module _ {X : Type 0} (ws ms : List ℕ) (k d r : ℕ) where
   pub line-granted : (x : X) → r < d → Ok x ≡ on_row (rows_of ws ms k d) r x
-  line-granted x h = row-granted (rows_of ws ms k d) r x (rw (length-rows ws ms k d) h)
+  line-granted x h = row_granted (rows_of ws ms k d) r x (rw (length_rows ws ms k d) h)
 
   pub line_refused : (x : X) → d ≤ r → Err (NoRow r) ≡ on_row (rows_of ws ms k d) r x
-  line_refused x h = row-refused (rows_of ws ms k d) r x (rw (length-rows ws ms k d) h)
+  line_refused x h = row_refused (rows_of ws ms k d) r x (rw (length_rows ws ms k d) h)
 
-  pub place-granted : (s : ℕ) (x : X) → r < d → s < k → Ok x ≡ on_cell k (rows_of ws ms k d) r s x
-  place-granted s x h in_row = cell-granted k (rows_of ws ms k d) r s x (rw (length-rows ws ms k d) h) in_row
+  pub place_granted : (s : ℕ) (x : X) → r < d → s < k → Ok x ≡ on_cell k (rows_of ws ms k d) r s x
+  place_granted s x h in_row = cell-granted k (rows_of ws ms k d) r s x (rw (length_rows ws ms k d) h) in_row
 
-  pub place-row : (s : ℕ) (x : X) → d ≤ r → Err (NoRow r) ≡ on_cell k (rows_of ws ms k d) r s x
-  place-row s x h = cell_row k (rows_of ws ms k d) r s x (rw (length-rows ws ms k d) h)
+  pub place_row : (s : ℕ) (x : X) → d ≤ r → Err (NoRow r) ≡ on_cell k (rows_of ws ms k d) r s x
+  place_row s x h = cell_row k (rows_of ws ms k d) r s x (rw (length_rows ws ms k d) h)
 
-  pub place-segment : (s : ℕ) (x : X) → r < d → k ≤ s → Err (NoSegment s) ≡ on_cell k (rows_of ws ms k d) r s x
-  place-segment s x h past = cell-segment k (rows_of ws ms k d) r s x (rw (length-rows ws ms k d) h) past
+  pub place_segment : (s : ℕ) (x : X) → r < d → k ≤ s → Err (NoSegment s) ≡ on_cell k (rows_of ws ms k d) r s x
+  place_segment s x h past = cell_segment k (rows_of ws ms k d) r s x (rw (length_rows ws ms k d) h) past
 
 -- the memory before is ws and ms, and after it vs and ns
 module _ (ws ms vs ns : List ℕ) (k d : ℕ) where
   -- every row changed alike
-  pub rows-map : (g : Row → Row) → ((r : ℕ) → r < d → row_in vs ns k r ≡ g (row_in ws ms k r)) → rows_of vs ns k d ≡ map g (rows_of ws ms k d)
-  rows-map g each = ext_get_or blank _ _
-      (length-rows vs ns k d ∙ sym (length-map (rows_of ws ms k d) g ∙ length-rows ws ms k d))
-      (λ r h. let lt : r < d = rw (length-rows vs ns k d) at h in
-      let low : r < length (rows_of ws ms k d) = rw (length-rows ws ms k d) lt in
-      row_at-rows vs ns k d r lt ∙ each r lt ∙ ap g (sym (row_at-rows ws ms k d r lt))
+  pub rows_map : (g : Row → Row) → ((r : ℕ) → r < d → row_in vs ns k r ≡ g (row_in ws ms k r)) → rows_of vs ns k d ≡ map g (rows_of ws ms k d)
+  rows_map g each = ext_get_or blank _ _
+      (length_rows vs ns k d ∙ sym (length-map (rows_of ws ms k d) g ∙ length_rows ws ms k d))
+      (λ r h. let lt : r < d = rw (length_rows vs ns k d) at h in
+      let low : r < length (rows_of ws ms k d) = rw (length_rows ws ms k d) lt in
+      row_at_rows vs ns k d r lt ∙ each r lt ∙ ap g (sym (row_at_rows ws ms k d r lt))
       ∙ sym (get_or-map g (rows_of ws ms k d) r blank blank low))
 
   -- one row changed
-  pub rows-change : (f : Row → Row) (r : ℕ) → r < d → row_in vs ns k r ≡ f (row_in ws ms k r)
+  pub rows_change : (f : Row → Row) (r : ℕ) → r < d → row_in vs ns k r ≡ f (row_in ws ms k r)
       → ((j : ℕ) → j < d → j ≢ r → row_in vs ns k j ≡ row_in ws ms k j) → rows_of vs ns k d ≡ change r f (rows_of ws ms k d)
-  rows-change f r within here others = ext_get_or blank _ _
-      (length-rows vs ns k d ∙ sym (length-change f (rows_of ws ms k d) r ∙ length-rows ws ms k d))
-      (λ j h. let lt : j < d = rw (length-rows vs ns k d) at h in
-      row_at-rows vs ns k d j lt ∙ at j lt (cases_eq j r))
+  rows_change f r within here others = ext_get_or blank _ _
+      (length_rows vs ns k d ∙ sym (length-change f (rows_of ws ms k d) r ∙ length_rows ws ms k d))
+      (λ j h. let lt : j < d = rw (length_rows vs ns k d) at h in
+      row_at_rows vs ns k d j lt ∙ at j lt (cases_eq j r))
     where
       at : (j : ℕ) → j < d → (j ≡ r) ⊎ (j ≢ r) → row_in vs ns k j ≡ row_at (change r f (rows_of ws ms k d)) j
       at j lt (inl e) =
-          let low : r < length (rows_of ws ms k d) = rw (length-rows ws ms k d) within in
-          rw e (here ∙ ap f (sym (row_at-rows ws ms k d r within)) ∙ sym (row_at-change-same f (rows_of ws ms k d) r low))
+          let low : r < length (rows_of ws ms k d) = rw (length_rows ws ms k d) within in
+          rw e (here ∙ ap f (sym (row_at_rows ws ms k d r within)) ∙ sym (row_at-change_same f (rows_of ws ms k d) r low))
       at j lt (inr ne) =
-          others j lt ne ∙ sym (row_at-rows ws ms k d j lt) ∙ sym (row_at-change-other f (rows_of ws ms k d) r j ne)
+          others j lt ne ∙ sym (row_at_rows ws ms k d j lt) ∙ sym (row_at-change_other f (rows_of ws ms k d) r j ne)

@@ -1,13 +1,13 @@
 use Rattle.std.proofs.Common.{◌≡◌, ℕ, ◌+◌, ◌*◌, ◌<◌, length, get_or, set, sym, ap, ◌∙◌, arith, rules}
 use Rattle.device.specs.Layout.{byte_of, marks_of}
-use Rattle.device.proofs.Remarked.{get_or-remarked, remarked-more, remarked-none}
+use Rattle.device.proofs.Remarked.{get_or-remarked, remarked_more, remarked_none}
 use Rattle.std.proofs.lemmas.Nat.{mul-add-lt}
 use Rattle.table.specs.Row.{marks_searched}
 use Rattle.table.specs.declared.parts.Marks.{Marks}
 use Rattle.device.proofs.sweeps.compare_rows.Goals as goal
 
 pub loop-row-init : goal.loop-row-init
-loop-row-init c = sym (remarked-none _ _)
+loop-row-init c = sym (remarked_none _ _)
 
 pub bounds-words-row : goal.bounds-words-row
 bounds-words-row c =
@@ -35,4 +35,4 @@ loop-row-preserved c =
     let old : get_or c.loop-row.marks row 0 ≡ get_or ms row 0 = ap (λ xs. get_or xs row 0) c.loop-row.invariant ∙ get_or-remarked h ms row lt in
     let new : c.compared.result ≡ byte_of (h row (marks_of (get_or ms row 0))) =
     c.compared.ensures.answer ∙ ap (λ b. byte_of (h row (marks_of b))) old in
-    ap (λ xs. set xs row c.compared.result) c.loop-row.invariant ∙ remarked-more h ms row c.compared.result lt new
+    ap (λ xs. set xs row c.compared.result) c.loop-row.invariant ∙ remarked_more h ms row c.compared.result lt new

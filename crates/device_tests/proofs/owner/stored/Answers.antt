@@ -1,5 +1,5 @@
 use Rattle.std.proofs.Common.{◌≡◌, ◌+◌, ◌*◌, length, set, replicate, sym, ap, ◌∙◌, arith}
-use Rattle.device.proofs.Laid.{words-written}
+use Rattle.device.proofs.Laid.{words_written}
 use Rattle.device.specs.Rows.{new_row, rows_in}
 use Rattle.std.proofs.lemmas.List.{length-replicate}
 use Rattle.table.proofs.Checks.{cell-granted}
@@ -22,7 +22,7 @@ returns c = record {
       let rows : rows_in b ≡ change r (written 0 c.args.word) (rows_in a) = rw granted at c.write.ensures.rows in
       let place : r * a.width + 0 ≡ r = rw width (omega arith) in
       let stored : b.words.now ≡ set (replicate (length c.args.words.now) 0) r c.args.word =
-      words-written a b r 0 c.args.word (omega arith) (omega arith) c.write.ensures.frame rows
+      words_written a b r 0 c.args.word (omega arith) (omega arith) c.write.ensures.frame rows
       ∙ ap (λ i. set a.words.now i c.args.word) place ∙ ap (λ xs. set xs r c.args.word) cleared in
       let lender = c.write.ensures.frame.lent_words ∙ opened.lent_words in
       c.words-1.given.1.1 (sym lender) ∙ stored;

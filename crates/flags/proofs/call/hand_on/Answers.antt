@@ -1,7 +1,7 @@
 use Rattle.std.proofs.Common.{◌≡◌, ◌≤◌, length, get_or, arith}
 use Rattle.flags.specs.Cuts.{end_of, flag_up_to, flags_so_far}
 use Rattle.flags.specs.Laws.{Lasting}
-use Rattle.flags.proofs.HandedOn.{handed-none, handed-on, handed-over, handed-told, part_of, written_all, written-more, written_none}
+use Rattle.flags.proofs.HandedOn.{handed_none, handed_on, handed_over, handed_told, part_of, written_all, written_more, written_none}
 use Rattle.flags.proofs.call.hand_on.Goals as goal
 use Rattle.flags.proofs.call.hand_on.Goals.{then-until-end, else-until-end}
 
@@ -9,7 +9,7 @@ pub loop-member-init : goal.loop-member-init
 loop-member-init g c =
     let k = g.K.FlagKind in
     let rs = g.T.Table.rows c.args.table.now in (
-      rw (c.nothing-flag.ensures.answer, c.requires.cut.first) (handed-none k.laws rs),
+      rw (c.nothing-flag.ensures.answer, c.requires.cut.first) (handed_none k.laws rs),
       written_none (flag_up_to k.flag_of rs c.args.cut.now) c.args.out.now,
     )
 
@@ -27,13 +27,13 @@ loop-member-preserved g c =
     let known = c.loop-member.invariant.0 in
     let next : Lasting k.flag_of rs 0 end (part_of c.if-until-end.flag c.if-until-end.until) =
     elim c.if-until-end.branch [
-      | then-until-end w ↦ handed-on k.laws rs start end _ _ _ _ known w.joined_on-next.result w.if-until-end.true within
+      | then-until-end w ↦ handed_on k.laws rs start end _ _ _ _ known w.joined_on-next.result w.if-until-end.true within
           w.joined_on-next.ensures.answer w.flag-is w.until-is
-      | else-until-end w ↦ handed-over k.laws rs start end _ _ _ _ known rising w.if-until-end.false w.flag-is w.until-is
+      | else-until-end w ↦ handed_over k.laws rs start end _ _ _ _ known rising w.if-until-end.false w.flag-is w.until-is
     ] in
-    let told = handed-told k.laws rs cut c.args.depth member end _ _ is-end c.requires.depth next in (
+    let told = handed_told k.laws rs cut c.args.depth member end _ _ is-end c.requires.depth next in (
       rw (← is-end) next,
-      written-more (flag_up_to k.flag_of rs cut) c.args.out.now _ member _ c.loop-member.invariant.1 (omega arith) told,
+      written_more (flag_up_to k.flag_of rs cut) c.args.out.now _ member _ c.loop-member.invariant.1 (omega arith) told,
     )
 
 pub returns : goal.returns

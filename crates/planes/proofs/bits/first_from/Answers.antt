@@ -1,14 +1,14 @@
 use Rattle.std.proofs.Common.{arith}
-use Rattle.planes.proofs.BitLaws.{first-none, first-set, first-within, first-before}
+use Rattle.planes.proofs.BitLaws.{first_none, first-set, first-within, first_before}
 use Rattle.planes.proofs.bits.first_from.Goals as goal
 
 pub returns-then-left-eq0 : goal.returns-then-left-eq0
-returns-then-left-eq0 c k h l = first-none 64 c.args.number c.args.from (omega arith) c.if-left-eq0.true k h
+returns-then-left-eq0 c k h l = first_none 64 c.args.number c.args.from (omega arith) c.if-left-eq0.true k h
 
 pub returns-else-left-eq0 : goal.returns-else-left-eq0
 returns-else-left-eq0 c = (
   omega arith,
   first-within 64 c.args.number c.args.from (omega arith) c.if-left-eq0.false,
   first-set 64 c.args.number c.args.from (omega arith) c.if-left-eq0.false,
-  first-before 64 c.args.number c.args.from (omega arith),
+  first_before 64 c.args.number c.args.from (omega arith),
 )

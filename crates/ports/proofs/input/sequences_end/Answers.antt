@@ -1,5 +1,5 @@
-use Rattle.ports.proofs.Endings.{stays-ahead}
+use Rattle.ports.proofs.Endings.{stays_ahead}
 use Rattle.ports.proofs.input.sequences_end.Goals as goal
 
 pub returns : goal.returns
-returns c = record { law = stays-ahead }
+returns c = record { law = stays_ahead }

@@ -1,6 +1,6 @@
 use Rattle.std.proofs.Common.{◌≡◌, length, IfOk, vec_items, ap, ◌∙◌, subst}
 use Rattle.flags.specs.Cuts.{Running, checked_cut, flags_so_far}
-use Rattle.life.proofs.Depth.{depth-worked}
+use Rattle.life.proofs.Depth.{depth_worked}
 use Rattle.life.specs.Meaning.{State, lived, replies}
 use Rattle.life.specs.Walks.{WalksComplete}
 use Rattle.registers.specs.declared.state.Registers.{Registers}
@@ -32,7 +32,7 @@ returns g c =
       answers = subst (λ t. IfOk c.work-answers.result (λ v. vec_items v ≡ replies t calls)) first did.answers;
       state = state;
       walks = subst (λ t. WalksComplete t calls) first did.walks;
-      flags = told.answer ∙ ap (λ n. checked_cut (length c.args.out.now) cut n) (ap length rows ∙ depth-worked c.work-answers.result s calls);
+      flags = told.answer ∙ ap (λ n. checked_cut (length c.args.out.now) cut n) (ap length rows ∙ depth_worked c.work-answers.result s calls);
       out = told.out ∙ ap (λ rs. granted c.flags-flags.result (flags_so_far k.flag_of rs cut) c.args.out.now) rows;
       running = subst (λ rs. IfOk c.flags-flags.result (λ x. Running k.flag_of k.joined k.none rs cut)) rows told.running;
       frame = (kept.1.0, kept.1.1, kept.0);

@@ -1,7 +1,7 @@
 use Rattle.std.proofs.Common.{◌≡◌, ◌*◌, ◌≤◌, true, false, length, is_err, refl, ◌∙◌, rules}
 use Rattle.device.proofs.NewRows.{rows_new, rows_none}
 use Rattle.device.specs.Opening.{checked, depth_at}
-use Rattle.table.proofs.Granted.{granted-new, granted-old}
+use Rattle.table.proofs.Granted.{granted_new, granted_old}
 use Rattle.device.proofs.device.Device.open.Goals as goal
 
 pub returns-then-is_err : goal.returns-then-is_err
@@ -14,11 +14,11 @@ returns-then-is_err c =
       memory = record {
         lent_words = refl;
         lent_marks = refl;
-        width = granted-old (checked w n m) _ _ failed;
-        depth = granted-old (checked w n m) _ _ failed;
-        words = granted-old (checked w n m) _ _ failed;
-        marks = granted-old (checked w n m) _ _ failed;
-        rows = rows_none _ _ _ ∙ granted-old (checked w n m) _ _ failed;
+        width = granted_old (checked w n m) _ _ failed;
+        depth = granted_old (checked w n m) _ _ failed;
+        words = granted_old (checked w n m) _ _ failed;
+        marks = granted_old (checked w n m) _ _ failed;
+        rows = rows_none _ _ _ ∙ granted_old (checked w n m) _ _ failed;
       };
     }
 
@@ -36,10 +36,10 @@ returns c =
       memory = record {
         lent_words = refl;
         lent_marks = refl;
-        width = granted-new (checked w n m) _ _ passed;
-        depth = granted-new (checked w n m) _ _ passed;
-        words = words ∙ granted-new (checked w n m) _ _ passed;
-        marks = marks ∙ granted-new (checked w n m) _ _ passed;
-        rows = rw (words, marks) (rows_new n m w (depth_at w) worded marked ∙ granted-new (checked w n m) _ _ passed);
+        width = granted_new (checked w n m) _ _ passed;
+        depth = granted_new (checked w n m) _ _ passed;
+        words = words ∙ granted_new (checked w n m) _ _ passed;
+        marks = marks ∙ granted_new (checked w n m) _ _ passed;
+        rows = rw (words, marks) (rows_new n m w (depth_at w) worded marked ∙ granted_new (checked w n m) _ _ passed);
       };
     }

@@ -1,19 +1,19 @@
 use Rattle.std.proofs.Common.{refl, rules}
 use Rattle.std.proofs.lemmas.Result.{err_from_is_err_and}
-use Rattle.table.proofs.Refusals.{row-alike}
-use Rattle.join.proofs.Cuts.{even-marked}
-use Rattle.join.proofs.Seats.{changed-lower, changed-upper, row-lower, row-upper, set-marks-lower, set-marks-upper}
+use Rattle.table.proofs.Refusals.{row_alike}
+use Rattle.join.proofs.Cuts.{even_marked}
+use Rattle.join.proofs.Seats.{changed_lower, changed_upper, row_lower, row_upper, set_marks_lower, set_marks_upper}
 use Rattle.join.proofs.tables.JoinTable.set_marks.Goals as goal
 
 pub returns-in_err-row : goal.returns-in_err-row
 returns-in_err-row g c =
     let p = err_from_is_err_and c.from_residual.result c.from_residual.ensures.1 in
-    rw (p.1, p.2) (record { answer = row-alike _ _ _ _ _ c.in_err-row.ensures.answer; rows = refl; width = refl; frame = (g.U.Table.same _, g.L.Table.same _) })
+    rw (p.1, p.2) (record { answer = row_alike _ _ _ _ _ c.in_err-row.ensures.answer; rows = refl; width = refl; frame = (g.U.Table.same _, g.L.Table.same _) })
 
 pub returns-in-Upper : goal.returns-in-Upper
 returns-in-Upper g c =
-    let at = row-upper _ _ _ _ _ _ _ _ c.in_ok-row.ensures.answer c.in-Upper.is in search (rules, set-marks-upper, changed-upper, even-marked)
+    let at = row_upper _ _ _ _ _ _ _ _ c.in_ok-row.ensures.answer c.in-Upper.is in search (rules, set_marks_upper, changed_upper, even_marked)
 
 pub returns-in-Lower : goal.returns-in-Lower
 returns-in-Lower g c =
-    let at = row-lower _ _ _ _ _ _ _ _ c.in_ok-row.ensures.answer c.in-Lower.is in search (rules, set-marks-lower, changed-lower, even-marked)
+    let at = row_lower _ _ _ _ _ _ _ _ c.in_ok-row.ensures.answer c.in-Lower.is in search (rules, set_marks_lower, changed_lower, even_marked)

@@ -1,19 +1,19 @@
 use Rattle.std.proofs.Common.{refl, rules}
 use Rattle.std.proofs.lemmas.Result.{err_from_is_err_and}
-use Rattle.table.proofs.Refusals.{cell-alike}
-use Rattle.join.proofs.Cuts.{even-written}
-use Rattle.join.proofs.Seats.{cell-lower, cell-upper, changed-lower, changed-upper, write-lower, write-upper}
+use Rattle.table.proofs.Refusals.{cell_alike}
+use Rattle.join.proofs.Cuts.{even_written}
+use Rattle.join.proofs.Seats.{cell_lower, cell_upper, changed_lower, changed_upper, write_lower, write_upper}
 use Rattle.join.proofs.tables.JoinTable.write.Goals as goal
 
 pub returns-in_err-row : goal.returns-in_err-row
 returns-in_err-row g c =
     let p = err_from_is_err_and c.from_residual.result c.from_residual.ensures.1 in
-    rw (p.1, p.2) (record { answer = cell-alike _ _ _ _ _ _ _ c.in_err-row.ensures.answer; rows = refl; width = refl; frame = (g.U.Table.same _, g.L.Table.same _) })
+    rw (p.1, p.2) (record { answer = cell_alike _ _ _ _ _ _ _ c.in_err-row.ensures.answer; rows = refl; width = refl; frame = (g.U.Table.same _, g.L.Table.same _) })
 
 pub returns-in-Upper : goal.returns-in-Upper
 returns-in-Upper g c =
-    let at = cell-upper _ _ _ _ _ _ _ _ _ c.in_ok-row.ensures.answer c.in-Upper.is in search (rules, write-upper, changed-upper, even-written)
+    let at = cell_upper _ _ _ _ _ _ _ _ _ c.in_ok-row.ensures.answer c.in-Upper.is in search (rules, write_upper, changed_upper, even_written)
 
 pub returns-in-Lower : goal.returns-in-Lower
 returns-in-Lower g c =
-    let at = cell-lower _ _ _ _ _ _ _ _ _ c.in_ok-row.ensures.answer c.in-Lower.is in search (rules, write-lower, changed-lower, even-written)
+    let at = cell_lower _ _ _ _ _ _ _ _ _ c.in_ok-row.ensures.answer c.in-Lower.is in search (rules, write_lower, changed_lower, even_written)

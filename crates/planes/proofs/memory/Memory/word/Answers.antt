@@ -1,7 +1,7 @@
 use Rattle.std.proofs.Common.{◌≡◌, ℕ, ◌+◌, ◌*◌, Bool, get_or, sym, refl, ap, ◌∙◌, arith}
 use Rattle.planes.specs.Bits.{bit_of, number_of}
 use Rattle.planes.specs.Rows.{word_of}
-use Rattle.planes.proofs.BitLaws.{number_of-set, number_of-unset}
+use Rattle.planes.proofs.BitLaws.{number_of-set, number_of_unset}
 use Rattle.planes.proofs.memory.Memory.word.Goals as goal
 use Rattle.planes.proofs.memory.Memory.word.Goals.{then-bit, else-bit}
 
@@ -15,7 +15,7 @@ loop-b-preserved c =
     let i = c.loop-b.invariant in
     elim c.if-bit.branch [
       | then-bit w ↦ w.word-is ∙ rw i (number_of-set f c.loop-b.b 32 c.loop-b-test.true (sym c.bit.ensures ∙ w.if-bit.true))
-      | else-bit w ↦ w.word-is ∙ (i ∙ number_of-unset f c.loop-b.b (sym c.bit.ensures ∙ w.if-bit.false))
+      | else-bit w ↦ w.word-is ∙ (i ∙ number_of_unset f c.loop-b.b (sym c.bit.ensures ∙ w.if-bit.false))
     ]
 
 pub returns : goal.returns

@@ -1,10 +1,10 @@
 use Rattle.std.proofs.Common.{arith}
-use Rattle.planes.proofs.LaidOut.{laid-remarked}
+use Rattle.planes.proofs.LaidOut.{laid_remarked}
 use Rattle.planes.proofs.planes.Planes.mark.Goals as goal
 
 pub invariant_of-self : goal.invariant_of-self
 invariant_of-self c = record {
   quiet = c.requires;
-  laid = laid-remarked c.args.self.now.memory c.args.empty c.args.access c.args.hit c.args.self.now.laid
+  laid = laid_remarked c.args.self.now.memory c.args.empty c.args.access c.args.hit c.args.self.now.laid
       (omega arith) (omega arith) (omega arith);
 }
