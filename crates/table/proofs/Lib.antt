@@ -3,5 +3,6 @@ pub mod Changes
 pub mod First
 pub mod Granted
 pub mod Refusals
+pub mod Shapes
 pub mod Splits
 pub mod Told

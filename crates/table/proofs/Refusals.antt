@@ -25,3 +25,12 @@ module _ {X Y : Type 0} (e : TableFault) (x : X) (y : Y) where
       at : (b : Bool) → Err e ≡ cond b (on_segment w s x) (Err (NoRow r)) → Err e ≡ cond b (on_segment w s y) (Err (NoRow r))
       at true k = segment_alike w s k
       at false k = let same : e ≡ NoRow r = cc in ap Err same
+
+  -- a row that is refused is refused with any segment
+  pub cell-row_alike : (w : ℕ) (rs : List Row) (r s : ℕ) → Err e ≡ on_row rs r x → Err e ≡ on_cell w rs r s y
+  unfolding on_row on_cell
+  cell-row_alike w rs r s h = at (ltb r (length rs)) h
+    where
+      at : (b : Bool) → Err e ≡ cond b (Ok x) (Err (NoRow r)) → Err e ≡ cond b (on_segment w s y) (Err (NoRow r))
+      at true k = let z : ◌≡◌ {A = ℕ} 0 1 = cc in absurd (omega arith)
+      at false k = let same : e ≡ NoRow r = cc in ap Err same

@@ -5,6 +5,6 @@ mod faults;
 mod parts;
 mod tables;
 
-pub use faults::{Place, TableFault};
-pub use parts::{Marking, Marks, Purge, Search, Shape};
+pub use faults::{Place, Refusal, TableFault};
+pub use parts::{MAX_DEPTH, MAX_WIDTH, Marking, Marks, Purge, Search, Shape};
 pub use tables::Table;

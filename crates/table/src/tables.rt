@@ -8,7 +8,9 @@ use crate::faults::TableFault;
 use crate::parts::{Marking, Marks, Purge, Search, Shape};
 
 // Rows are numbered from 0. A call that names a row or a segment checks the row first, then the
-// segment, and refuses what lies outside; a refusal changes nothing, and neither does a question.
+// segment, and refuses what lies outside; a refusal changes nothing, and neither does a question. Both
+// are plain numbers, since a wrong one is refused by itself; and each call states all that it leaves,
+// width and frame too, so that its own clauses are all that a caller reads.
 pub trait Table {
     // The meaning of a table: its width in segments, and its rows.
     ghost width: { Self → ℕ };
