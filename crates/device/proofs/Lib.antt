@@ -1,3 +1,4 @@
+pub mod Calls
 pub mod FirstRow
 pub mod Laid
 pub mod NewRows

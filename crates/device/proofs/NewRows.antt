@@ -20,6 +20,6 @@ rows_new n m k d worded marked = ext_get_or blank _ _
     row : (r : ℕ) → r < d → row_in (replicate n 0) (replicate m 128) k r ≡ new_row k
     row r lt =
         let apart = rows_apart r d k lt in
-        let words : take k (drop (r * k) (replicate n 0)) ≡ replicate k 0 = ap (take {A = ℕ} k) (drop-replicate (r * k) n 0) ∙ take-replicate k (n - r * k) 0 (omega arith) in
+        let words : ◌≡◌ {A = List ℕ} (take k (drop (r * k) (replicate n 0))) (replicate k 0) = ap (take {A = ℕ} k) (drop-replicate (r * k) n 0) ∙ take-replicate k (n - r * k) 0 (omega arith) in
         let byte : ◌≡◌ {A = ℕ} (get_or (replicate m 128) r 0) 128 = get_or-replicate m r 128 0 (omega arith) in
         rw (words, byte)

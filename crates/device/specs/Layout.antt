@@ -2,8 +2,7 @@
 --   marks_of, byte_of   a mark byte has bit 7 for empty, bit 6 for access, bit 5 for hit, 0 elsewhere
 --   proper              a byte that stands for marks, and not for an empty row with a hit
 --   rows_of             the d rows of width k in words ws and mark bytes ms
---   remarked            the first n mark bytes changed by h, which is told the row's number
-use Rattle.std.specs.Prelude.{ℕ, ◌*◌, Bool, cond, not, ◌&&◌, List, ◌++◌, map, take, drop, ◌==◌, bit_and, bit_or, slice_index}
+use Rattle.std.specs.Prelude.{ℕ, ◌*◌, Bool, cond, not, ◌&&◌, List, map, take, drop, ◌==◌, bit_and, bit_or, slice_index}
 use Rattle.std.specs.List.{range_with_len}
 use Rattle.table.specs.Row.{Row}
 use Rattle.table.specs.declared.parts.Marks.{Marks}
@@ -26,6 +25,3 @@ row_in ws ms k r = record { words = take k (drop (r * k) ws); marks = marks_of (
 
 unfoldable pub rows_of : List ℕ → List ℕ → ℕ → ℕ → List Row
 rows_of ws ms k d = map (row_in ws ms k) (range_with_len 0 d)
-
-unfoldable pub remarked : (ℕ → Marks → Marks) → ℕ → List ℕ → List ℕ
-remarked h n ms = map (λ r. byte_of (h r (marks_of (slice_index ms r)))) (range_with_len 0 n) ++ drop n ms

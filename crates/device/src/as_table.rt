@@ -1,77 +1,25 @@
 // The device as a table.
-ghost use Rattle.std.specs.Prelude.{◌≡◌, ◌+◌, ◌*◌, ◌<◌, map, length, IfOk};
+ghost use Rattle.std.specs.Prelude.{◌≡◌, ◌+◌, ◌*◌, ◌<◌, false, ◌&&◌, map, length, slice_index, IfOk};
+ghost use Rattle.device.specs.Halves.{FirstOf, has_bit};
 ghost use Rattle.device.specs.Proved.Memory.{frame_chain, frame_same, sound_rows};
 ghost use Rattle.device.specs.Rows.{Frame, rows_in, width_in};
-ghost use Rattle.device.specs.Sweeps.{row_swept};
+ghost use Rattle.device.specs.Sweeps.{row_after};
 ghost use Rattle.table.specs.Calls.{on_cell, on_row};
-ghost use Rattle.table.specs.Row.{searched as row_searched};
+ghost use Rattle.table.specs.declared.parts.Marks.{Marks};
 
 use crate::bytes::{EMPTY, HIT, given, pack, unpack, written};
 use crate::device::Device;
-use crate::halves::first_between;
-use crate::sweeps::{Sweep, compare, pass_over};
+use crate::halves::first_with;
+use crate::sweeps::{CLEARED, compare, pass_over, purged, unvisited};
 use table::{Marking, Marks, Purge, Search, Shape, Table, TableFault};
 
-impl<'a> Device<'a> {
-    // A device with no rows and no memory.
-    fn none() -> Device<'a> {
-        Device {
-            words: &mut [],
-            marks: &mut [],
-            width: 1,
-            depth: 0,
-        }
-    }
-
-    // The device after a search whose segment it has.
-    fn searched(self, query: Search) -> Device<'a>
-        requires within { query.segment < self.width }
-        ensures rows { rows_in result ≡ map (row_searched query) (rows_in self.entry) }
-        ensures frame { Frame self.entry result }
-    {
-        let Device {
-            words,
-            marks,
-            width,
-            depth,
-        } = self;
-        compare(words, marks, width as usize, depth as usize, query);
-        Device {
-            words,
-            marks,
-            width,
-            depth,
-        }
-    }
-
-    // The device after its marks were changed, those of every row alike.
-    fn swept(self, how: Sweep) -> Device<'a>
-        ensures rows { rows_in result ≡ map (row_swept how) (rows_in self.entry) }
-        ensures frame { Frame self.entry result }
-    {
-        let Device {
-            words,
-            marks,
-            width,
-            depth,
-        } = self;
-        pass_over(marks, depth as usize, how);
-        Device {
-            words,
-            marks,
-            width,
-            depth,
-        }
-    }
-
+impl Device<'_> {
     // The place of a row's marks.
     fn line(&self, row: u32) -> Result<usize, TableFault>
         ensures answer { result ≡ on_row (rows_in self.now) row row }
         ensures within { IfOk result (λ at. (at ≡ row) × (row < self.now.depth)) }
     {
-        if row >= self.depth {
-            return Err(TableFault::Row(row));
-        }
+        self.shape().check_row(row)?;
         Ok(row as usize)
     }
 
@@ -80,22 +28,29 @@ impl<'a> Device<'a> {
         ensures answer { result ≡ on_cell (width_in self.now) (rows_in self.now) row segment (row * self.now.width + segment) }
         ensures within { IfOk result (λ at. (at ≡ row * self.now.width + segment) × (row < self.now.depth) × (segment < self.now.width) × (at < length self.now.words.now)) }
     {
-        if row >= self.depth {
-            return Err(TableFault::Row(row));
-        }
-        if segment >= self.width {
-            return Err(TableFault::Segment(segment));
-        }
+        self.shape().check_cell(row, segment)?;
         Ok(row as usize * self.width as usize + segment as usize)
     }
 
     // Changes the marks of every row alike.
-    fn sweep(&mut self, how: Sweep)
-        ensures rows { rows_in self.new ≡ map (row_swept how) (rows_in self.old) }
+    fn sweep<F: Fn(Marks) -> Marks>(&mut self, change: F)
+        requires callable { F.IsAlwaysCallable change }
+        requires quiet { (m n : Marks) → F.post change m n → (m.empty && m.hit) ≡ false → (n.empty && n.hit) ≡ false }
+        ensures rows { (after : Marks → Marks) → ((m n : Marks) → F.post change m n → n ≡ after m) → rows_in self.new ≡ map (row_after after) (rows_in self.old) }
         ensures frame { Frame self.old self.new }
     {
-        let device = std::mem::replace(self, Device::none());
-        *self = device.swept(how);
+        pass_over(&mut self.marks[..self.depth as usize], change);
+    }
+
+    // The first row, `from` or later, that has the mark.
+    fn first_from(&self, from: u32, mark: u8) -> Option<u32>
+        ensures { FirstOf (λ k. has_bit mark (slice_index self.now.marks.now k)) from self.now.depth result }
+    {
+        if from >= self.depth {
+            return None;
+        }
+        let row = first_with(&self.marks[from as usize..self.depth as usize], mark)?;
+        Some(from + row as u32)
     }
 }
 
@@ -146,33 +101,31 @@ impl Table for Device<'_> {
     }
 
     fn search(&mut self, query: Search) -> Result<(), TableFault> {
-        if query.segment >= self.width {
-            return Err(TableFault::Segment(query.segment));
-        }
-        // Taken out whole, so that the pass runs over two slices that nothing else can reach and
-        // is vectorized also where the device lies deep inside other tables.
-        let device = std::mem::replace(self, Device::none());
-        *self = device.searched(query);
+        self.shape().check_segment(query.segment)?;
+        // Lent by a name: of words lent straight from the field no proof knows that they stay.
+        let words = &mut *self.words;
+        let marks = &mut self.marks[..self.depth as usize];
+        compare(words, marks, self.width as usize, query);
         Ok(())
     }
 
     fn first_hit(&self, from: u32) -> Option<u32> {
-        first_between(self.marks, from, self.depth, HIT)
+        self.first_from(from, HIT)
     }
 
     fn first_empty(&self, from: u32) -> Option<u32> {
-        first_between(self.marks, from, self.depth, EMPTY)
+        self.first_from(from, EMPTY)
     }
 
     fn purge(&mut self, kind: Purge) {
-        self.sweep(Sweep::Purge(kind));
+        self.sweep(|marks| purged(kind, marks));
     }
 
     fn clear_access(&mut self) {
-        self.sweep(Sweep::ClearAccess);
+        self.sweep(unvisited);
     }
 
     fn reset(&mut self) {
-        self.sweep(Sweep::Reset);
+        self.sweep(|_| CLEARED);
     }
 }

@@ -40,8 +40,7 @@ pub(crate) fn written(segment: u32, marks: Marks) -> Marks
     if segment == 0 {
         Marks {
             empty: false,
-            access: marks.access,
-            hit: marks.hit,
+            ..marks
         }
     } else {
         marks

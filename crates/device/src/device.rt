@@ -2,7 +2,8 @@
 ghost use Rattle.std.specs.Prelude.{◌≡◌, ℕ, ◌*◌, ◌<◌, ◌≤◌, true, length, slice_index};
 ghost use Rattle.device.specs.Layout.{proper};
 
-// Segment s of row r is word r × width + s, and mark byte r holds the marks of row r.
+// Segment s of row r is word r × width + s, and mark byte r holds the marks of row r. All of the lent
+// memory is held, also what lies past the rows: a call leaves it as it was, and the owner is told so.
 #[derive(Drop)]
 pub struct Device<'a> {
     pub(crate) words: &'a mut [u32],

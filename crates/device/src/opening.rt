@@ -5,8 +5,9 @@ ghost use Rattle.device.specs.Rows.{Opened};
 
 use crate::bytes::EMPTY;
 use crate::device::Device;
-use table::Place;
+use table::{MAX_WIDTH, Place, Refusal};
 
+// How many words a device takes, and how many mark bytes.
 pub const CELLS: usize = 8192;
 
 // Why a device cannot be opened as asked, with the width, or the numbers of words and mark bytes.
@@ -16,22 +17,21 @@ pub enum OpenFault {
     Memory(usize, usize),
 }
 
-impl OpenFault {
-    pub fn number(self) -> u32
-        ensures answer { result ≡ number_of self }
-    {
+impl Refusal for OpenFault {
+    ghost numbered = { number_of };
+
+    ghost found_at = { place_of };
+
+    fn number(self) -> u32 {
         match self {
             OpenFault::Width(_) => 1,
             OpenFault::Memory(..) => 2,
         }
     }
 
-    pub fn place(self) -> Place
-        ensures answer { result ≡ place_of self }
-    {
+    fn place(self) -> Place {
         match self {
-            OpenFault::Width(_) => Place::Opening,
-            OpenFault::Memory(..) => Place::Opening,
+            OpenFault::Width(_) | OpenFault::Memory(..) => Place::Opening,
         }
     }
 }
@@ -41,7 +41,7 @@ impl<'a> Device<'a> {
     pub fn check(width: u32, words: &[u32], marks: &[u8]) -> Result<(), OpenFault>
         ensures answer { result ≡ checked width (length words.now) (length marks.now) }
     {
-        if width < 1 || width > 8 {
+        if !(1..=MAX_WIDTH).contains(&width) {
             return Err(OpenFault::Width(width));
         }
         if words.len() != CELLS || marks.len() != CELLS {
@@ -51,7 +51,8 @@ impl<'a> Device<'a> {
     }
 
     // A device that passes the check starts with every word 0 and every row empty. One that fails
-    // it has width 1 and no rows, and leaves the memory as it is.
+    // it has width 1 and no rows, and leaves the memory as it is. The words and the marks come apart
+    // and not as `Cells`: most owners have two arrays, so a struct would be made only to be taken apart.
     pub fn open(width: u32, words: &'a mut [u32], marks: &'a mut [u8]) -> Device<'a>
         ensures memory { Opened width words.entry marks.entry result }
     {

@@ -1,7 +1,7 @@
 // Examples of openings, checks and searches.
-use device::{Device, OpenFault};
+use device::{Cells, Device, OpenFault};
 use std::test::Fail;
-use table::{Marking, Search, Table, TableFault};
+use table::{Marking, Refusal, Search, Table, TableFault};
 
 fn depth_at(width: u32) -> u32 {
     let mut words = [1; 8192];
@@ -58,6 +58,21 @@ fn refused_memory_stays(rt: HostRuntime) {
 }
 
 #[test]
+fn halves_of_odd_numbers(rt: HostRuntime) {
+    let mut words = [1, 2, 3];
+    let mut marks = [4, 5, 6, 7, 8];
+    let cells = Cells {
+        words: &mut words,
+        marks: &mut marks,
+    };
+    let (upper, lower) = cells.halves();
+    assert_eq!(rt; &*upper.words, [1].as_slice());
+    assert_eq!(rt; &*upper.marks, [4, 5].as_slice());
+    assert_eq!(rt; &*lower.words, [2, 3].as_slice());
+    assert_eq!(rt; &*lower.marks, [6, 7, 8].as_slice());
+}
+
+#[test]
 fn row_before_segment(rt: HostRuntime) {
     let mut words = [0; 8192];
     let mut marks = [0; 8192];
@@ -73,6 +88,7 @@ fn row_before_segment(rt: HostRuntime) {
     assert_eq!(rt; TableFault::Segment(8).number(), 4);
 }
 
+// Each test crate makes its own searches, with the flags that it varies.
 const fn search(key: u32, segment: u32, head: bool, access: bool) -> Search {
     Search {
         key,

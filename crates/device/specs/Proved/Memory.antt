@@ -77,9 +77,6 @@ pub frame_chain : (a b c : Device) → Frame a b → Frame b c → Frame a c
 frame_chain a b c f g = framed a c (g.lent_words ∙ f.lent_words) (g.lent_marks ∙ f.lent_marks) (g.width ∙ f.width) (g.depth ∙ f.depth)
     (rest_words b c g ∙ rest_words a b f) (rest_marks b c g ∙ rest_marks a b f)
 
-few_cells : (d : Device) → d.depth ≤ 8192
-few_cells d = d.few
-
 sound_row : (d : Device) (r : ℕ) → r < d.depth → SoundRow d.width (slice_index_or (rows_in d) r blank)
 sound_row d r h = rw (row_at_rows d.words.now d.marks.now d.width d.depth r h) record {
   wide = length-take-le d.width (drop (r * d.width) d.words.now) (rw length-drop (omega (arith, rows_apart r d.depth d.width h, d.worded)));
@@ -90,6 +87,6 @@ pub sound_rows : (d : Device) → Sound d.width (rows_in d)
 sound_rows d = record {
   some = d.some;
   narrow = d.narrow;
-  few = rw (length_rows d.words.now d.marks.now d.width d.depth) (omega (arith, few_cells d));
+  few = rw (length_rows d.words.now d.marks.now d.width d.depth) (omega (arith, d.few));
   each = All-from_get_or (SoundRow d.width) (rows_in d) blank (λ r h. sound_row d r (rw (length_rows d.words.now d.marks.now d.width d.depth) at h));
 }

@@ -1,16 +1,15 @@
 -- The rows of a device after a change of its memory. Assumes nothing.
-use Rattle.std.specs.Prelude.{◌≡◌, ℕ, suc, ◌+◌, ◌*◌, ◌<◌, ◌≤◌, ◌≢◌, ◌⊎◌, List, map, length, drop, Ok, Err, slice_index}
+use Rattle.std.specs.Prelude.{◌≡◌, ℕ, suc, ◌+◌, ◌*◌, ◌<◌, ◌≤◌, ◌≢◌, ◌⊎◌, List, map, length, drop, Ok, slice_index}
 use Rattle.std.proofs.Common.{inl, inr, sym, ap, ◌∙◌, suc-mul, arith}
 use Rattle.device.specs.Layout.{marks_of, row_in, rows_of}
 use Rattle.std.proofs.lemmas.Nat.{mul-le}
 use Rattle.std.proofs.lemmas.List.FromFn.{length-map-range_with_len, get_or-map-range_with_len}
 use Rattle.std.proofs.lemmas.List.{ext_get_or, get_or-drop, get_or-map, get_or-take, length-map}
 use Rattle.std.proofs.lemmas.Bool.{cases_eq}
-use Rattle.table.proofs.Checks.{cell-granted, cell_row, cell_segment, row_granted, row_refused}
+use Rattle.table.proofs.Checks.{cell-granted, row_granted}
 use Rattle.table.proofs.Changes.{length-change, row_at-change_same, row_at-change_other}
 use Rattle.table.specs.Calls.{change, marks_at, on_cell, on_row, row_at, word_at}
 use Rattle.table.specs.Row.{Row, blank, word_in}
-use Rattle.table.specs.declared.faults.TableFault.TheVariants.{Row as NoRow, Segment as NoSegment}
 
 pub length_rows : (ws ms : List ℕ) (k d : ℕ) → length (rows_of ws ms k d) ≡ d
 unfolding rows_of
@@ -36,17 +35,8 @@ module _ {X : Type 0} (ws ms : List ℕ) (k d r : ℕ) where
   pub line-granted : (x : X) → r < d → Ok x ≡ on_row (rows_of ws ms k d) r x
   line-granted x h = row_granted (rows_of ws ms k d) r x (rw (length_rows ws ms k d) h)
 
-  pub line_refused : (x : X) → d ≤ r → Err (NoRow r) ≡ on_row (rows_of ws ms k d) r x
-  line_refused x h = row_refused (rows_of ws ms k d) r x (rw (length_rows ws ms k d) h)
-
   pub place_granted : (s : ℕ) (x : X) → r < d → s < k → Ok x ≡ on_cell k (rows_of ws ms k d) r s x
   place_granted s x h in_row = cell-granted k (rows_of ws ms k d) r s x (rw (length_rows ws ms k d) h) in_row
-
-  pub place_row : (s : ℕ) (x : X) → d ≤ r → Err (NoRow r) ≡ on_cell k (rows_of ws ms k d) r s x
-  place_row s x h = cell_row k (rows_of ws ms k d) r s x (rw (length_rows ws ms k d) h)
-
-  pub place_segment : (s : ℕ) (x : X) → r < d → k ≤ s → Err (NoSegment s) ≡ on_cell k (rows_of ws ms k d) r s x
-  place_segment s x h past = cell_segment k (rows_of ws ms k d) r s x (rw (length_rows ws ms k d) h) past
 
 -- the memory before is ws and ms, and after it vs and ns
 module _ (ws ms vs ns : List ℕ) (k d : ℕ) where

@@ -1,18 +1,17 @@
-use Rattle.std.proofs.Common.{◌≡◌, ◌<◌, length, get_or, set, sym, ap, ◌∙◌, arith}
-use Rattle.device.specs.Layout.{byte_of, marks_of}
-use Rattle.device.specs.Sweeps.{marks_swept}
-use Rattle.device.proofs.Remarked.{get_or-remarked, remarked_more, remarked_none}
+use Rattle.std.proofs.Common.{◌≡◌, ◌<◌, ◌≢◌, length, get_or, sym, ap, ◌∙◌, arith, get_or-set_other, get_or-set_same, below_more}
+use Rattle.device.specs.Layout.{marks_of}
 use Rattle.device.proofs.sweeps.pass_over.Goals as goal
 
-pub loop-row-init : goal.loop-row-init
-loop-row-init c = sym (remarked_none _ _)
+pub loop-byte-preserved : goal.loop-byte-preserved
+loop-byte-preserved g c =
+    let i = c.loop-byte.byte-index in
+    let old : marks_of (get_or c.args.marks.now i 0) ≡ c.unpack.result = sym (c.unpack.ensures.answer ∙ ap marks_of (c.loop-byte.invariant.left i (omega arith))) in
+    record {
+      done = below_more _ _
+          (λ k h. let t = c.loop-byte.invariant.done k h in let ne : k ≢ i = omega arith in (t.0, t.1, rw get_or-set_other t.2))
+          (let lt : i < length c.loop-byte.marks = omega arith in (c.change.result, rw old c.change.ensures, rw get_or-set_same c.pack.ensures.answer));
+      left = λ k h. let ne : k ≢ i = omega arith in rw get_or-set_other (c.loop-byte.invariant.left k (omega arith));
+    }
 
-pub loop-row-preserved : goal.loop-row-preserved
-loop-row-preserved c =
-    let ms = c.args.marks.now in
-    let row = c.loop-row.row in
-    let lt : row < length ms = omega arith in
-    let old : get_or c.loop-row.marks row 0 ≡ get_or ms row 0 = ap (λ xs. get_or xs row 0) c.loop-row.invariant ∙ get_or-remarked (λ _. marks_swept c.args.how) ms row lt in
-    let new : c.pack.result ≡ byte_of (marks_swept c.args.how (marks_of (get_or ms row 0))) =
-    c.pack.ensures.answer ∙ ap byte_of (c.swept.ensures.answer ∙ ap (marks_swept c.args.how) (c.unpack.ensures.answer ∙ ap marks_of old)) in
-    ap (λ xs. set xs row c.pack.result) c.loop-row.invariant ∙ remarked_more (λ _. marks_swept c.args.how) ms row c.pack.result lt new
+pub returns : goal.returns
+returns g c = record { memory = λ i h. c.loop-byte.invariant.done i (omega arith) }

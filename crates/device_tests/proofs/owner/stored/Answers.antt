@@ -1,4 +1,4 @@
-use Rattle.std.proofs.Common.{◌≡◌, ◌+◌, ◌*◌, length, set, replicate, sym, ap, ◌∙◌, arith}
+use Rattle.std.proofs.Common.{◌≡◌, ◌+◌, ◌*◌, length, set, replicate, sym, ap, ◌∙◌, arith, rules}
 use Rattle.device.proofs.Laid.{words_written}
 use Rattle.device.specs.Rows.{new_row, rows_in}
 use Rattle.std.proofs.lemmas.List.{length-replicate}
@@ -25,5 +25,5 @@ returns c = record {
       words_written a b r 0 c.args.word (omega arith) (omega arith) c.write.ensures.frame rows
       ∙ ap (λ i. set a.words.now i c.args.word) place ∙ ap (λ xs. set xs r c.args.word) cleared in
       let lender = c.write.ensures.frame.lent_words ∙ opened.lent_words in
-      c.words-1.given.1.1 (sym lender) ∙ stored;
+      let back = sym lender in search (rules);
 }
