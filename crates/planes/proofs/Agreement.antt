@@ -1,70 +1,79 @@
 -- Key and word agree in every bit that the mask leaves exactly if no such bit differs. Assumes nothing.
---   differ_to   one of the lowest n bits differs, and the mask leaves it
-use Rattle.std.proofs.Common.{◌≡◌, ℕ, zero, suc, ◌+◌, ◌^◌, ◌<◌, Bool, true, false, cond, not, ◌&&◌, ◌||◌, eqb, sym, refl, ap, ◌∙◌, ⊎_elim, add-one, arith}
-use lib.Bits.{bit_and, bit_or, bit_xor, or_lt}
-use Rattle.std.proofs.lemmas.Bool.{cases_Bool, cases_lt, eq-eqb, ne_eqb, or_parts, or_from, true≢false}
+--   same_low   the lowest n bits of two numbers are the same
+use Rattle.std.proofs.Common.{◌≡◌, ℕ, ◌+◌, ◌*◌, ◌%◌, ◌^◌, ◌<◌, Bool, true, false, cond, not, ◌&&◌, ◌||◌, eqb, sym, refl, ◌∙◌, arith}
+use lib.Bits.{bit_and, bit_or, bit_xor}
+use Rattle.std.proofs.Math.Bool.{not-not}
+use Rattle.std.proofs.lemmas.Bool.Decides.{Decides-and, Decides-eqb, Decides-like, nat_tests, same_from_decides}
+use Rattle.std.proofs.lemmas.Nat.{mod-pow-add, mod_below, pow_pos, same_from_place, widths}
+use Rattle.std.proofs.lemmas.Nat.Bits.{bit_at-lt}
+use Rattle.std.specs.Int.{bit_at}
 use Rattle.planes.specs.Bits.{bit_of}
-use Rattle.planes.proofs.BitLaws.{bit_of-and, bit_of-or, bit_of-xor, same_bits}
+use Rattle.planes.proofs.BitLaws.{bit_of-and, bit_of_none, bit_of-not_32, bit_of-not_64, bit_of-or, bit_of-xor, bit_read}
+use Rattle.planes.proofs.Words.{bit_of-word_of, word_of_lt}
 
--- bits w, k and m of a word, a key and a mask
-abbrev pub differ : Bool → Bool → Bool → Bool
-differ w k m = cond w (not k) k && not m
+unfoldable pub same_low : ℕ → ℕ → ℕ → Bool
+same_low n x y = eqb (x % 2 ^ n) (y % 2 ^ n)
 
-unfoldable pub differ_to : ℕ → ℕ → ℕ → ℕ → Bool
-differ_to key mask word zero = false
-differ_to key mask word (suc n) = differ_to key mask word n || differ (bit_of word n) (bit_of key n) (bit_of mask n)
+pub same_none : (x y k : ℕ) → bit_of 0 k ≡ not (same_low 0 x y)
+unfolding same_low
+same_none x y k = let p : x % 2 ^ 0 ≡ 0 = omega arith in let q : y % 2 ^ 0 ≡ 0 = omega arith in rw (bit_of_none k, p, q)
 
-module _ (key mask word : ℕ) where
-  pub differ_none : false ≡ differ_to key mask word 0
-  unfolding differ_to
-  differ_none = refl
+pub same_all : (n x y : ℕ) → n ≡ 32 → x < 2 ^ 32 → y < 2 ^ 32 → same_low n x y ≡ eqb x y
+unfolding same_low
+same_all n x y e h k = let p : x % 2 ^ 32 ≡ x = omega arith in let q : y % 2 ^ 32 ≡ y = omega arith in rw (e, p, q)
 
-  pub differ_more : (n : ℕ) → (differ_to key mask word n || differ (bit_of word n) (bit_of key n) (bit_of mask n)) ≡ differ_to key mask word (n + 1)
-  unfolding differ_to
-  differ_more n = rw (add-one n)
+-- one bit more
+same_more : (n x y : ℕ) → same_low (n + 1) x y ≡ (same_low n x y && eqb (bit_at x n) (bit_at y n))
+unfolding same_low
+same_more n x y =
+    let p : x % 2 ^ (n + 1) ≡ bit_at x n * 2 ^ n + x % 2 ^ n = low_more x in
+    let q : y % 2 ^ (n + 1) ≡ bit_at y n * 2 ^ n + y % 2 ^ n = low_more y in
+    same_from_decides (eqb (x % 2 ^ (n + 1)) (y % 2 ^ (n + 1))) (eqb (x % 2 ^ n) (y % 2 ^ n) && eqb (bit_at x n) (bit_at y n))
+    (Decides-eqb (x % 2 ^ (n + 1)) (y % 2 ^ (n + 1)))
+    (Decides-like (eqb (x % 2 ^ n) (y % 2 ^ n) && eqb (bit_at x n) (bit_at y n))
+    (λ (e, f). p ∙ rw (e, f) refl ∙ sym q)
+    (λ e. let same = same_from_place (bit_at x n) (x % 2 ^ n) (bit_at y n) (y % 2 ^ n) (2 ^ n) (mod_below x (2 ^ n) (pow_pos n)) (mod_below y (2 ^ n) (pow_pos n)) (sym p ∙ e ∙ q) in (same.1, same.0))
+    (Decides-and (eqb (x % 2 ^ n) (y % 2 ^ n)) (eqb (bit_at x n) (bit_at y n)) (Decides-eqb (x % 2 ^ n) (y % 2 ^ n)) (Decides-eqb (bit_at x n) (bit_at y n))))
+  where
+    low_more : (z : ℕ) → z % 2 ^ (n + 1) ≡ bit_at z n * 2 ^ n + z % 2 ^ n
+    low_more z = let e : n + 1 ≡ 1 + n = omega arith in rw e (mod-pow-add z 1 n)
 
-  -- one bit
-  agree_bit : (w k m : Bool) → differ w k m ≡ false → (k || m) ≡ (w || m)
-  agree_bit true true m e = refl
-  agree_bit true false true e = refl
-  agree_bit true false false e = sym e
-  agree_bit false true true e = refl
-  agree_bit false true false e = e
-  agree_bit false false m e = refl
+same_bit : (x y n : ℕ) → eqb (bit_at x n) (bit_at y n) ≡ cond (bit_of x n) (bit_of y n) (not (bit_of y n))
+unfolding bit_of
+same_bit x y n = by_digits (bit_at x n) (bit_at y n) (bit_at-lt x n) (bit_at-lt y n)
+  where
+    by_digits : (x y : ℕ) → x < 2 → y < 2 → eqb x y ≡ cond (eqb x 1) (eqb y 1) (not (eqb y 1))
+    by_digits x y h k = grind (arith, nat_tests)
 
-  bit_agrees : (w k m : Bool) → (k || m) ≡ (w || m) → differ w k m ≡ false
-  bit_agrees true true true e = refl
-  bit_agrees true true false e = refl
-  bit_agrees true false true e = refl
-  bit_agrees true false false e = sym e
-  bit_agrees false true true e = refl
-  bit_agrees false true false e = e
-  bit_agrees false false true e = refl
-  bit_agrees false false false e = refl
+-- one turn of the search: planes p of the word, w of the key and x of what the mask leaves
+pub same_turn : (key mask word missed p w x n k : ℕ) → bit_of missed k ≡ not (same_low n (bit_or key mask) (bit_or word mask))
+    → bit_of p k ≡ bit_of word n → bit_of w k ≡ bit_of key n → bit_of x k ≡ not (bit_of mask n)
+    → bit_of (bit_or missed (bit_and (bit_xor p w) x)) k ≡ not (same_low (n + 1) (bit_or key mask) (bit_or word mask))
+same_turn key mask word missed p w x n k em ep ew ex =
+    rw (
+      bit_of-or missed (bit_and (bit_xor p w) x) k,
+      bit_of-and (bit_xor p w) x k,
+      bit_of-xor p w k,
+      em,
+      ep,
+      ew,
+      ex,
+      same_more n (bit_or key mask) (bit_or word mask),
+      same_bit (bit_or key mask) (bit_or word mask) n,
+      bit_of-or key mask n,
+      bit_of-or word mask n,
+    )
+    (by_test (same_low n (bit_or key mask) (bit_or word mask)) (bit_of word n) (bit_of key n) (bit_of mask n))
+  where
+    by_test : (s w k m : Bool) → (not s || (cond w (not k) k && not m)) ≡ not (s && cond (k || m) (w || m) (not (w || m)))
+    by_test false w k m = refl
+    by_test true true true true = refl
+    by_test true true true false = refl
+    by_test true true false true = refl
+    by_test true true false false = refl
+    by_test true false true true = refl
+    by_test true false true false = refl
+    by_test true false false true = refl
+    by_test true false false false = refl
 
-  same_to : (n : ℕ) → differ_to key mask word n ≡ false → (k : ℕ) → k < n → bit_of (bit_or key mask) k ≡ bit_of (bit_or word mask) k
-  unfolding differ_to
-  same_to zero e k h = absurd (omega arith)
-  same_to (suc n) e k h =
-      let p = or_parts (differ_to key mask word n) (differ (bit_of word n) (bit_of key n) (bit_of mask n)) e in
-      ⊎_elim (same_to n p.0 k) (λ l. let s : k ≡ n = omega arith in rw s
-      (bit_of-or key mask n ∙ agree_bit (bit_of word n) (bit_of key n) (bit_of mask n) p.1 ∙ sym (bit_of-or word mask n))) (cases_lt k n)
-
-  to_same : bit_or key mask ≡ bit_or word mask → (n : ℕ) → differ_to key mask word n ≡ false
-  unfolding differ_to
-  to_same e zero = refl
-  to_same e (suc n) = or_from (differ_to key mask word n) (differ (bit_of word n) (bit_of key n) (bit_of mask n)) (to_same e n)
-      (bit_agrees (bit_of word n) (bit_of key n) (bit_of mask n) (sym (bit_of-or key mask n) ∙ ap (λ (x : ℕ). bit_of x n) e ∙ bit_of-or word mask n))
-
-  pub differ_all : (n : ℕ) → key < 2 ^ n → mask < 2 ^ n → word < 2 ^ n → differ_to key mask word n ≡ not (eqb (bit_or key mask) (bit_or word mask))
-  differ_all n hk hm hw = ⊎_elim
-      (λ e. e ∙ ap not (sym (ne_eqb (bit_or key mask) (bit_or word mask) (λ s. true≢false (sym e ∙ to_same s n)))))
-      (λ e. e ∙ ap not (sym (eq-eqb (bit_or key mask) (bit_or word mask)
-      (same_bits n (bit_or key mask) (bit_or word mask) (or_lt n key mask hk hm) (or_lt n word mask hw hm) (same_to n e)))))
-      (cases_Bool (differ_to key mask word n))
-
-  -- one turn of the search: planes p of the word, w of the key and x of what the mask leaves
-  pub differ_turn : (m p w x b k : ℕ) → bit_of m k ≡ differ_to key mask word b → bit_of p k ≡ bit_of word b → bit_of w k ≡ bit_of key b
-      → bit_of x k ≡ not (bit_of mask b) → bit_of (bit_or m (bit_and (bit_xor p w) x)) k ≡ differ_to key mask word (b + 1)
-  differ_turn m p w x b k em ep ew ex =
-      rw (bit_of-or m (bit_and (bit_xor p w) x) k, bit_of-and (bit_xor p w) x k, bit_of-xor p w k, em, ep, ew, ex) (differ_more b)
+pub ruleset agreement_laws = (bit_read, bit_of-not_32, bit_of-not_64, not-not, widths, bit_of-word_of, word_of_lt, same_all, same_none, same_turn)

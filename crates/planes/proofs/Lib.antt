@@ -5,3 +5,4 @@ pub mod LaidOut
 pub mod RowLaws
 pub mod MarkLaws
 pub mod PutLaws
+pub mod CallLaws

@@ -1,9 +1,10 @@
 -- The rows after a word was put into the planes, and after the opening. Assumes nothing.
-use Rattle.std.proofs.Common.{◌≡◌, ℕ, zero, suc, ◌+◌, ◌-◌, ◌*◌, ◌/◌, ◌%◌, ◌^◌, ◌<◌, Bool, true, false, cond, ◌&&◌, eqb, [], ◌∷◌, get_or, replicate, sym, refl, ap, ◌∙◌, ap₂, arith}
+use Rattle.std.proofs.Common.{◌≡◌, ℕ, zero, suc, ◌+◌, ◌*◌, ◌/◌, ◌%◌, ◌^◌, ◌<◌, Bool, true, false, cond, ◌&&◌, eqb, get_or, replicate, sym, refl, ap, ◌∙◌, ap₂, arith}
 use Rattle.std.proofs.lemmas.List.{ext_get_or, get_or-replicate, length-replicate}
-use Rattle.std.proofs.lemmas.Bool.{and_right, cond_both, eq-eqb, ne_eqb}
+use Rattle.std.proofs.Math.Bool.{and-false}
+use Rattle.std.proofs.lemmas.Bool.{cond_both, eq-eqb, ne_eqb}
 use Rattle.table.specs.Calls.{change}
-use Rattle.table.specs.Row.{Row, blank, written}
+use Rattle.table.specs.Row.{blank, written}
 use Rattle.planes.specs.Bits.{bit_of, with_bit}
 use Rattle.planes.specs.Laws.{length_rows, row_at_rows}
 use Rattle.planes.specs.Rows.{Laid, Put, Quiet, opened, row_of, rows_of, vacant, word_of}
@@ -12,11 +13,6 @@ use Rattle.planes.proofs.BitLaws.{bit_of_none, bit_of_ones, bit_of-with_bit, sam
 use Rattle.planes.proofs.LaidOut.{laid_from_whole, whole_from_laid}
 use Rattle.planes.proofs.RowLaws.{rows_change}
 use Rattle.planes.proofs.Words.{bit_of-word_of, word_of_lt}
-
-same_row : (a b c d : ℕ) (e f g h i j : Bool) → a ≡ b → c ≡ d → e ≡ f → g ≡ h → i ≡ j
-    → ◌≡◌ {A = Row} (record { words = a ∷ c ∷ []; marks = record { empty = e; access = g; hit = i } })
-    (record { words = b ∷ d ∷ []; marks = record { empty = f; access = h; hit = j } })
-same_row a b c d e f g h i j p q r s t = rw (p, q, r, s, t)
 
 -- bit r of a number in which bit `row` was replaced, if t says so
 replaced_bit : (t : Bool) (row r : ℕ) (b : Bool) (x : ℕ) → r < 64 → bit_of (cond t (with_bit row b x) x) r ≡ cond (t && eqb r row) b (bit_of x r)
@@ -41,18 +37,15 @@ module _ {row s word : ℕ} {m n : Memory} (put : Put row s word m n) (small : w
       by_test b l true = refl
       by_test b l false = sym (bit_of-word_of m.planes t r b l)
 
-  put_empty : (r : ℕ) → r < 64 → bit_of n.empty r ≡ cond (eqb s 0 && eqb r row) false (bit_of m.empty r)
-  put_empty r h = ap (λ (x : ℕ). bit_of x r) put.empty ∙ replaced_bit (eqb s 0) row r false m.empty h
+  put_empty : (r : ℕ) → r < 64 → bit_of n.marks.empty r ≡ cond (eqb s 0 && eqb r row) false (bit_of m.marks.empty r)
+  put_empty r h = ap (λ (x : ℕ). bit_of x r) put.empty ∙ replaced_bit (eqb s 0) row r false m.marks.empty h
 
   put_other : (r : ℕ) → r < 64 → (r ≡ row → ⊥) → row_of n r ≡ row_of m r
-  put_other r h ne =
-      let away : (t : Bool) → (t && eqb r row) ≡ false = λ t. and_right t (eqb r row) (ne_eqb r row ne) in
-      same_row _ _ _ _ _ _ _ _ _ _ (put_word 0 r (omega arith) h ∙ rw (away (eqb 0 s))) (put_word 1 r (omega arith) h ∙ rw (away (eqb 1 s)))
-      (put_empty r h ∙ rw (away (eqb s 0))) (ap (λ (x : ℕ). bit_of x r) put.access) (ap (λ (x : ℕ). bit_of x r) put.hit)
+  put_other r h ne = simp (put_word 0 r (omega arith) h, put_word 1 r (omega arith) h, put_empty r h, put.access, put.hit, ne_eqb r row ne, and-false)
 
-  pub quiet_put : Quiet m.empty m.hit → Quiet n.empty n.hit
+  pub quiet_put : Quiet m.marks.empty m.marks.hit → Quiet n.marks.empty n.marks.hit
   quiet_put quiet r h = ap₂ (λ (x y : Bool). x && y) (put_empty r h) (ap (λ (x : ℕ). bit_of x r) put.hit)
-      ∙ by_test (eqb s 0 && eqb r row) (bit_of m.empty r) (bit_of m.hit r) (quiet r h)
+      ∙ by_test (eqb s 0 && eqb r row) (bit_of m.marks.empty r) (bit_of m.marks.hit r) (quiet r h)
     where
       by_test : (t e h : Bool) → (e && h) ≡ false → (cond t false e && h) ≡ false
       by_test true e h q = refl
@@ -63,20 +56,16 @@ module _ {row s word : ℕ} {m n : Memory} (put : Put row s word m n) (small : w
     size = put.size ∙ w.size;
     planes = λ i h. rw (put.planes i h) (cond_both (eqb (i / 32) s) (with_bit row (bit_of word (i % 32)) (get_or m.planes i 0)) (get_or m.planes i 0)
         (λ x. x < 2 ^ 64) (λ e. with_bit_lt row (bit_of word (i % 32)) (get_or m.planes i 0)) (λ e. w.planes i h));
-    empty = rw put.empty (cond_both (eqb s 0) (with_bit row false m.empty) m.empty (λ x. x < 2 ^ 64) (λ e. with_bit_lt row false m.empty) (λ e. w.empty));
+    empty = rw put.empty (cond_both (eqb s 0) (with_bit row false m.marks.empty) m.marks.empty (λ x. x < 2 ^ 64) (λ e. with_bit_lt row false m.marks.empty) (λ e. w.empty));
     access = rw put.access w.access;
     hit = rw put.hit w.hit;
   })
 
 put_here : (s : ℕ) {row word : ℕ} {m n : Memory} → Put row s word m n → word < 2 ^ 32 → s < 2 → row < 64 → row_of n row ≡ written s word (row_of m row)
 put_here zero {row} put small h k =
-    let e = eq-eqb row row refl in
-    same_row _ _ _ _ _ _ _ _ _ _ (put_word put small 0 row (omega arith) k ∙ rw e) (put_word put small 1 row (omega arith) k)
-    (put_empty put small row k ∙ rw e) (ap (λ (x : ℕ). bit_of x row) put.access) (ap (λ (x : ℕ). bit_of x row) put.hit)
+    simp (put_word put small 0 row (omega arith) k, put_word put small 1 row (omega arith) k, put_empty put small row k, put.access, put.hit, eq-eqb row row refl)
 put_here (suc zero) {row} put small h k =
-    let e = eq-eqb row row refl in
-    same_row _ _ _ _ _ _ _ _ _ _ (put_word put small 0 row (omega arith) k) (put_word put small 1 row (omega arith) k ∙ rw e)
-    (put_empty put small row k) (ap (λ (x : ℕ). bit_of x row) put.access) (ap (λ (x : ℕ). bit_of x row) put.hit)
+    simp (put_word put small 0 row (omega arith) k, put_word put small 1 row (omega arith) k, put_empty put small row k, put.access, put.hit, eq-eqb row row refl)
 put_here (suc (suc s)) put small h k = absurd (omega arith)
 
 pub rows_written : {row s word : ℕ} {m n : Memory} → Put row s word m n → word < 2 ^ 32 → s < 2 → row < 64 → rows_of n ≡ change row (written s word) (rows_of m)
@@ -87,9 +76,6 @@ word-opened : (s r : ℕ) → s < 2 → word_of (replicate 64 0) s r ≡ 0
 word-opened s r h = same_bits 32 (word_of (replicate 64 0) s r) 0 (word_of_lt (replicate 64 0) s r) (omega arith)
     (λ b l. bit_of-word_of (replicate 64 0) s r b l ∙ ap (λ (x : ℕ). bit_of x r) (get_or-replicate 64 (32 * s + b) 0 0 (omega arith))
     ∙ bit_of_none r ∙ sym (bit_of_none b))
-
-pub quiet_opened : Quiet (2 ^ 64 - 1) 0
-quiet_opened r h = rw (bit_of_ones 64 r h, bit_of_none r)
 
 pub laid_opened : Laid opened
 unfolding opened
@@ -105,5 +91,5 @@ pub rows_opened : rows_of opened ≡ replicate 64 vacant
 unfolding opened
 rows_opened = ext_get_or blank (rows_of opened) (replicate 64 vacant) (length_rows opened ∙ sym (length-replicate 64 vacant))
     (λ r h. let l : r < 64 = omega (arith, length_rows opened) in row_at_rows opened r l
-    ∙ same_row _ _ _ _ _ _ _ _ _ _ (word-opened 0 r (omega arith)) (word-opened 1 r (omega arith)) (bit_of_ones 64 r l) (bit_of_none r) (bit_of_none r)
-    ∙ sym (get_or-replicate 64 r vacant blank l))
+    ∙ simp (word-opened 0 r (omega arith), word-opened 1 r (omega arith), bit_of_ones 64 r l, bit_of_none r)
+    (sym (get_or-replicate 64 r vacant blank l)))

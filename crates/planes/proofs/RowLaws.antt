@@ -1,13 +1,13 @@
 -- The rows of one memory from those of another: all changed alike, or one; the first row with a mark.
 -- Assumes nothing.
-use Rattle.std.proofs.Common.{◌≡◌, ℕ, ◌<◌, Bool, ◌≢◌, map, Some, None, Option, sym, ap, ◌∙◌, ⊎_elim, arith}
+use Rattle.std.proofs.Common.{◌≡◌, ℕ, ◌<◌, Bool, ◌≢◌, map, Some, None, Option, sym, refl, ap, ◌∙◌, ⊎_elim, arith}
 use Rattle.std.proofs.lemmas.List.{ext_get_or, get_or-map, length-map}
 use Rattle.std.proofs.lemmas.Bool.{cases_eq}
 use Rattle.table.proofs.Changes.{length-change, row_at-change_same, row_at-change_other}
 use Rattle.table.proofs.First.{first_from_least}
 use Rattle.table.specs.Calls.{change, first, row_at}
 use Rattle.table.specs.Laws.{Least}
-use Rattle.table.specs.Row.{Row, blank}
+use Rattle.table.specs.Row.{Row, blank, is_empty, is_hit}
 use Rattle.planes.specs.Bits.{FirstBit, bit_of}
 use Rattle.planes.specs.Laws.{length_rows, row_at_rows}
 use Rattle.planes.specs.Rows.{row_of, rows_of}
@@ -41,5 +41,12 @@ module _ (m : Memory) (p : Row → Bool) (x : ℕ) (e : (r : ℕ) → r < 64 →
     λ k le lt. test_row k (omega arith) ∙ h.3 k le lt,
   )
 
-  pub first_bit : (from : ℕ) (a : Option ℕ) → FirstBit x from a → a ≡ first p (rows_of m) from
+  first_bit : (from : ℕ) (a : Option ℕ) → FirstBit x from a → a ≡ first p (rows_of m) from
   first_bit from a h = first_from_least p (rows_of m) from a (least_bit from a h)
+
+module _ (m : Memory) (from : ℕ) (a : Option ℕ) where
+  pub first_hit_bit : FirstBit m.marks.hit from a → a ≡ first is_hit (rows_of m) from
+  first_hit_bit h = first_bit m is_hit m.marks.hit (λ r l. refl) from a h
+
+  pub first_empty_bit : FirstBit m.marks.empty from a → a ≡ first is_empty (rows_of m) from
+  first_empty_bit h = first_bit m is_empty m.marks.empty (λ r l. refl) from a h

@@ -18,7 +18,7 @@ module _ (m : Memory) where
   unfolding rows_of
   row_at_rows r h = get_or-map-range_with_len (row_of m) 0 64 r r blank h (omega arith)
 
-  pub sound_rows : Quiet m.empty m.hit → Sound 2 (rows_of m)
+  pub sound_rows : Quiet m.marks.empty m.marks.hit → Sound 2 (rows_of m)
   sound_rows quiet = record {
     some = omega arith;
     narrow = omega arith;

@@ -3,6 +3,7 @@
 
 mod bits;
 mod memory;
+mod places;
 mod planes;
 mod tables;
 

@@ -2,13 +2,15 @@
 // whole planes and whole marks.
 ghost use Rattle.std.specs.Prelude.{◌≡◌, replicate};
 ghost use Rattle.planes.specs.Laws.{sound_rows};
-ghost use Rattle.planes.specs.Rows.{Laid, Quiet, opened, remarked, rows_of, vacant};
+ghost use Rattle.planes.specs.Rows.{Laid, opened, rows_of, vacant};
 
 use crate::bits;
-use crate::memory::Memory;
-use crate::planes::{DEPTH, Planes, WIDTH};
+use crate::memory::{MarkPlanes, Memory};
+use crate::places::{Cell, Row, SHAPE, Segment};
+use crate::planes::Planes;
 use table::{Marking, Marks, Purge, Search, Shape, Table, TableFault};
 
+#[tactic(auto, using(crate::proofs::BitLaws::plane_laws))]
 impl Planes {
     // As after a reset, with every word 0.
     pub fn new() -> Planes
@@ -18,24 +20,13 @@ impl Planes {
         Planes {
             memory: Memory {
                 planes: [0; 64],
-                empty: u64::MAX,
-                access: 0,
-                hit: 0,
+                marks: MarkPlanes::VACATED,
             },
         }
     }
-
-    // Gives all rows their marks at once.
-    fn mark(&mut self, empty: u64, access: u64, hit: u64)
-        requires { Quiet empty hit }
-        ensures { self.new.memory ≡ remarked empty access hit self.old.memory }
-    {
-        self.memory.empty = empty;
-        self.memory.access = access;
-        self.memory.hit = hit;
-    }
 }
 
+#[tactic(auto, using(crate::proofs::CallLaws::call_laws), unfolding(table::specs::Calls::on_cell, table::specs::Calls::on_row, table::specs::Calls::on_segment))]
 impl Table for Planes {
     ghost width = { λ t. 2 };
 
@@ -51,90 +42,69 @@ impl Table for Planes {
     ghost chain = { λ a b c f g. g };
 
     fn shape(&self) -> Shape {
-        Shape {
-            width: WIDTH,
-            depth: DEPTH,
-        }
+        SHAPE
     }
 
     fn read(&self, row: u32, segment: u32) -> Result<u32, TableFault> {
-        if row >= DEPTH {
-            return Err(TableFault::Row(row));
-        }
-        if segment >= WIDTH {
-            return Err(TableFault::Segment(segment));
-        }
-        Ok(self.memory.word(row, segment))
+        let cell = Cell::new(row, segment)?;
+        Ok(self.memory.word(cell))
     }
 
     fn write(&mut self, row: u32, segment: u32, word: u32) -> Result<(), TableFault> {
-        if row >= DEPTH {
-            return Err(TableFault::Row(row));
-        }
-        if segment >= WIDTH {
-            return Err(TableFault::Segment(segment));
-        }
-        self.memory.put(row, segment, word);
+        let cell = Cell::new(row, segment)?;
+        self.memory.put(cell, word);
         Ok(())
     }
 
     fn marks(&self, row: u32) -> Result<Marks, TableFault> {
-        if row >= DEPTH {
-            return Err(TableFault::Row(row));
-        }
+        let row = Row::try_from(row)?;
+        let MarkPlanes { empty, access, hit } = self.memory.marks;
         Ok(Marks {
-            empty: bits::bit(self.memory.empty, row),
-            access: bits::bit(self.memory.access, row),
-            hit: bits::bit(self.memory.hit, row),
+            empty: row.is_in(empty),
+            access: row.is_in(access),
+            hit: row.is_in(hit),
         })
     }
 
     fn set_marks(&mut self, row: u32, marking: Marking) -> Result<(), TableFault> {
-        if row >= DEPTH {
-            return Err(TableFault::Row(row));
-        }
-        let empty = bits::with_bit(self.memory.empty, row, marking.empty);
-        let access = bits::with_bit(self.memory.access, row, marking.access);
-        let hit = self.memory.hit & !empty;
-        self.mark(empty, access, hit);
+        let row = Row::try_from(row)?;
+        let marks = &mut self.memory.marks;
+        marks.empty = row.put_in(marks.empty, marking.empty);
+        marks.access = row.put_in(marks.access, marking.access);
+        marks.hit &= !marks.empty;
         Ok(())
     }
 
     fn search(&mut self, query: Search) -> Result<(), TableFault> {
-        if query.segment >= WIDTH {
-            return Err(TableFault::Segment(query.segment));
-        }
-        let empty = self.memory.empty;
-        let agreeing = self.memory.agreeing(query.segment, query.key, query.mask);
-        let hit = !empty & (agreeing & (bits::spread(query.head) | self.memory.hit));
-        let access = self.memory.access | (bits::spread(query.access) & hit);
-        self.mark(empty, access, hit);
+        let segment = Segment::try_from(query.segment)?;
+        let agreeing = self.memory.agreeing(segment, query.key, query.mask);
+        let marks = &mut self.memory.marks;
+        marks.hit = !marks.empty & (agreeing & (bits::spread(query.head) | marks.hit));
+        marks.access |= bits::spread(query.access) & marks.hit;
         Ok(())
     }
 
     fn first_hit(&self, from: u32) -> Option<u32> {
-        bits::first_from(self.memory.hit, from)
+        bits::first_from(self.memory.marks.hit, from)
     }
 
     fn first_empty(&self, from: u32) -> Option<u32> {
-        bits::first_from(self.memory.empty, from)
+        bits::first_from(self.memory.marks.empty, from)
     }
 
     fn purge(&mut self, kind: Purge) {
-        let gone = self.memory.of_kind(kind);
-        let empty = self.memory.empty | gone;
-        let access = self.memory.access & !gone;
-        let hit = self.memory.hit & !gone;
-        self.mark(empty, access, hit);
+        let marks = &mut self.memory.marks;
+        let gone = marks.of_kind(kind);
+        marks.empty |= gone;
+        marks.access &= !gone;
+        marks.hit &= !gone;
     }
 
     fn clear_access(&mut self) {
-        let empty = self.memory.empty;
-        let hit = self.memory.hit;
-        self.mark(empty, 0, hit);
+        self.memory.marks.access = 0;
     }
 
     fn reset(&mut self) {
-        self.mark(u64::MAX, 0, 0);
+        self.memory.marks = MarkPlanes::VACATED;
     }
 }
