@@ -1,12 +1,12 @@
 -- How each call's meaning goes through a fence. Assumes nothing.
-use Rattle.std.proofs.Common.{◌≡◌, ℕ, ◌+◌, ◌-◌, ◌<◌, ◌≤◌, min, Bool, ◌⊎◌, List, map, length, Ok, Err, Option, Result, sym, ◌∙◌, inl, inr, arith}
+use Rattle.std.proofs.Common.{◌≡◌, ℕ, ◌+◌, ◌-◌, ◌<◌, ◌≤◌, min, Bool, ◌⊎◌, List, map, length, Ok, Err, Option, Result, sym, ap, ◌∙◌, inl, inr, arith}
 use Rattle.std.proofs.lemmas.List.{drop-map, get_or-drop, length-drop}
 use Rattle.std.proofs.lemmas.Bool.{cases_lt}
+use Rattle.std.proofs.lemmas.Bool.Decides.{nat_tests}
 use Rattle.std.specs.Option.{option_map}
-use Rattle.table.proofs.Checks.{cell-granted, row_granted}
 use Rattle.table.proofs.Splits.{change-drop, first-drop, first_past}
-use Rattle.table.specs.Calls.{change, first, granted, marks_at, on_cell, on_row, row_at, word_at}
-use Rattle.table.specs.Row.{Row, blank}
+use Rattle.table.specs.Calls.{change, first, granted, marks_at, on_cell, on_row, on_segment, row_at, word_at}
+use Rattle.table.specs.Row.{Row, blank, word_in}
 use Rattle.fence.specs.Shown.{shown}
 
 module _ (f : ℕ) (rs : List Row) where
@@ -26,24 +26,20 @@ module _ (f : ℕ) (rs : List Row) where
   unfolding shown
   shown-change g r = sym (change-drop g f rs r)
 
-  -- a row that is shown lies behind the hidden ones
-  behind : (r : ℕ) → r < length (shown f rs) → f + r < length rs
-  behind r h = let e = length-shown in omega arith
-
   -- what the fence grants, the table grants
-  pub read_shown : (w r s : ℕ) → r < length (shown f rs) → s < w → on_cell w rs (f + r) s (word_at rs (f + r) s) ≡ on_cell w (shown f rs) r s (word_at (shown f rs) r s)
-  read_shown w r s h k =
-      sym (cell-granted w rs (f + r) s (word_at rs (f + r) s) (behind r h) k) ∙ rw (← row_at-shown r) (cell-granted w (shown f rs) r s (word_at (shown f rs) r s) h k)
-
-  pub marks_shown : (r : ℕ) → r < length (shown f rs) → on_row rs (f + r) (marks_at rs (f + r)) ≡ on_row (shown f rs) r (marks_at (shown f rs) r)
-  marks_shown r h =
-      sym (row_granted rs (f + r) (marks_at rs (f + r)) (behind r h)) ∙ rw (← row_at-shown r, marks_at) (row_granted (shown f rs) r (marks_at (shown f rs) r) h)
-
   pub cell-shown : {X : Type 0} (w r s : ℕ) (x : X) → r < length (shown f rs) → s < w → on_cell w rs (f + r) s x ≡ on_cell w (shown f rs) r s x
-  cell-shown w r s x h k = sym (cell-granted w rs (f + r) s x (behind r h) k) ∙ cell-granted w (shown f rs) r s x h k
+  unfolding on_cell on_segment
+  cell-shown w r s x h k = let e = length-shown in grind (arith, nat_tests)
 
   pub row_shown : {X : Type 0} (r : ℕ) (x : X) → r < length (shown f rs) → on_row rs (f + r) x ≡ on_row (shown f rs) r x
-  row_shown r x h = sym (row_granted rs (f + r) x (behind r h)) ∙ row_granted (shown f rs) r x h
+  unfolding on_row
+  row_shown r x h = let e = length-shown in grind (arith, nat_tests)
+
+  pub read_shown : (w r s : ℕ) → r < length (shown f rs) → s < w → on_cell w rs (f + r) s (word_at rs (f + r) s) ≡ on_cell w (shown f rs) r s (word_at (shown f rs) r s)
+  read_shown w r s h k = cell-shown w r s (word_at rs (f + r) s) h k ∙ ap (on_cell w (shown f rs) r s) (sym (ap (λ row. word_in row s) (row_at-shown r)))
+
+  pub marks_shown : (r : ℕ) → r < length (shown f rs) → on_row rs (f + r) (marks_at rs (f + r)) ≡ on_row (shown f rs) r (marks_at (shown f rs) r)
+  marks_shown r h = row_shown r (marks_at rs (f + r)) h ∙ ap (on_row (shown f rs) r) (sym (ap (λ row. row.marks) (row_at-shown r)))
 
   -- the rows after a call, granted or refused
   pub granted-change : {Y F : Type 0} (a : Result Y F) (new : List Row) (g : Row → Row) (r : ℕ)

@@ -1,5 +1,5 @@
 // A fence: a table with its first rows hidden.
-#![tactic(auto)]
+#![tactic(auto, using(crate::proofs::Calls::of_fence))]
 
 mod fences;
 mod tables;

@@ -1,68 +1,48 @@
 // A fence is a table, over every table.
-ghost use Rattle.std.specs.Prelude.{◌≡◌, ◌+◌, ◌-◌, refl};
+ghost use Rattle.std.specs.Prelude.{◌≡◌, ◌+◌, Bool, refl};
 ghost use Rattle.std.proofs.Common.{◌∙◌};
-ghost use Rattle.std.specs.Option.{option_map};
-ghost use Rattle.table.specs.Calls.{on_cell, on_row};
-ghost use Rattle.fence.specs.Shown.{shown};
-ghost use Rattle.fence.specs.Sound.{shown_sound};
+ghost use Rattle.table.specs.Calls.{first, on_cell, on_row};
+ghost use Rattle.table.specs.Questions.{TellsFirst};
+ghost use Rattle.table.specs.Row.{Row};
+ghost use Rattle.fence.specs.Shown.{fenced_rows};
+ghost use Rattle.fence.specs.Sound.{fenced_sound};
 
 use crate::fences::Fence;
 use table::{Marking, Marks, Purge, Search, Shape, Table, TableFault};
 
-// The shape that a table has behind a fence.
-fn fenced(hidden: u32, whole: Shape) -> Shape
-    ensures answer { result ≡ record { width = whole.width; depth = whole.depth - hidden } }
-{
-    Shape {
-        width: whole.width,
-        depth: whole.depth.saturating_sub(hidden),
-    }
-}
-
-// The number in the fence of a row that the table named.
-fn outside(hidden: u32, found: Option<u32>) -> Option<u32>
-    ensures answer { result ≡ option_map (λ row. row - hidden) found }
-{
-    match found {
-        Some(row) => Some(row.saturating_sub(hidden)),
-        None => None,
-    }
-}
-
 impl<T: Table> Fence<T> {
     // The table's number of a row that the fence has.
-    fn behind(&self, row: u32) -> Result<u32, TableFault>
-        ensures answer { result ≡ on_row (shown self.now.hidden (T.Table.rows self.now.table)) row (self.now.hidden + row) }
+    fn place(&self, row: u32) -> Result<u32, TableFault>
+        ensures answer { result ≡ on_row (fenced_rows T.Table self.now) row (self.now.hidden + row) }
     {
-        let shape = fenced(self.hidden, self.table.shape());
-        if row < shape.depth {
-            Ok(self.hidden + row)
-        } else {
-            Err(TableFault::Row(row))
-        }
+        self.shape().check_row(row)?;
+        Ok(self.hidden + row)
     }
 
     // The same, for a row and a segment that the fence has.
     fn cell(&self, row: u32, segment: u32) -> Result<u32, TableFault>
-        ensures answer { result ≡ on_cell (T.Table.width self.now.table) (shown self.now.hidden (T.Table.rows self.now.table)) row segment (self.now.hidden + row) }
+        ensures answer { result ≡ on_cell (T.Table.width self.now.table) (fenced_rows T.Table self.now) row segment (self.now.hidden + row) }
     {
-        let shape = fenced(self.hidden, self.table.shape());
-        if row >= shape.depth {
-            Err(TableFault::Row(row))
-        } else if segment >= shape.width {
-            Err(TableFault::Segment(segment))
-        } else {
-            Ok(self.hidden + row)
-        }
+        self.shape().check_cell(row, segment)?;
+        Ok(self.hidden + row)
+    }
+
+    // The first row that a question names, `from` or later, among those that the fence has.
+    fn first_of<F: FnOnce(&T, u32) -> Option<u32>>(&self, from: u32, ask: F) -> Option<u32>
+        requires { F.IsAlwaysCallable ask }
+        ensures answer { (p : Row → Bool) → TellsFirst T.Table F.FnOnce ask p → result ≡ first p (fenced_rows T.Table self.now) from }
+    {
+        let place = from.saturating_add(self.hidden);
+        ask(&self.table, place).map(|row| row.saturating_sub(self.hidden))
     }
 }
 
 impl<T: Table> Table for Fence<T> {
     ghost width = { λ t. T.Table.width t.table };
 
-    ghost rows = { λ t. shown t.hidden (T.Table.rows t.table) };
+    ghost rows = { fenced_rows T.Table };
 
-    ghost sound = { λ t. shown_sound (T.Table.width t.table) t.hidden (T.Table.rows t.table) (T.Table.sound t.table) };
+    ghost sound = { fenced_sound T.Table };
 
     // The same number of rows stays hidden.
     ghost frame = { λ a b. (b.hidden ≡ a.hidden) × T.Table.frame a.table b.table };
@@ -72,7 +52,11 @@ impl<T: Table> Table for Fence<T> {
     ghost chain = { λ a b c p q. (q.0 ∙ p.0, T.Table.chain a.table b.table c.table p.1 q.1) };
 
     fn shape(&self) -> Shape {
-        fenced(self.hidden, self.table.shape())
+        let whole = self.table.shape();
+        Shape {
+            depth: whole.depth.saturating_sub(self.hidden),
+            ..whole
+        }
     }
 
     fn read(&self, row: u32, segment: u32) -> Result<u32, TableFault> {
@@ -86,12 +70,12 @@ impl<T: Table> Table for Fence<T> {
     }
 
     fn marks(&self, row: u32) -> Result<Marks, TableFault> {
-        let place = self.behind(row)?;
+        let place = self.place(row)?;
         self.table.marks(place)
     }
 
     fn set_marks(&mut self, row: u32, marking: Marking) -> Result<(), TableFault> {
-        let place = self.behind(row)?;
+        let place = self.place(row)?;
         self.table.set_marks(place, marking)
     }
 
@@ -100,17 +84,11 @@ impl<T: Table> Table for Fence<T> {
     }
 
     fn first_hit(&self, from: u32) -> Option<u32> {
-        outside(
-            self.hidden,
-            self.table.first_hit(from.saturating_add(self.hidden)),
-        )
+        self.first_of(from, T::first_hit)
     }
 
     fn first_empty(&self, from: u32) -> Option<u32> {
-        outside(
-            self.hidden,
-            self.table.first_empty(from.saturating_add(self.hidden)),
-        )
+        self.first_of(from, T::first_empty)
     }
 
     fn purge(&mut self, kind: Purge) {

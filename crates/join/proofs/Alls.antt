@@ -1,6 +1,7 @@
 -- The rows of a join after a call that changes every row. v and x are the widths of the upper and the
 -- lower table. Assumes nothing.
 use Rattle.std.proofs.Common.{◌≡◌, ℕ, ◌<◌, min, List, map, Ok, Err, Result, sym, ◌∙◌, arith}
+use Rattle.std.proofs.lemmas.Bool.Decides.{nat_tests}
 use Rattle.table.proofs.Checks.{segment_granted}
 use Rattle.table.specs.Calls.{granted, on_segment}
 use Rattle.table.specs.Row.{Row}
@@ -26,3 +27,8 @@ module _ (n v x : ℕ) (us ls : List Row) (v' x' : ℕ) (us' ls' : List Row) whe
 -- the lower table grants the segment, and so does the join
 pub search_granted : {X : Type 0} (v x s : ℕ) (y : X) → s < min v x → on_segment x s y ≡ on_segment (min v x) s y
 search_granted v x s y lt = sym (segment_granted x s y (omega arith)) ∙ segment_granted (min v x) s y lt
+
+-- what the upper table refuses, the join refuses
+pub search_refused : {X : Type 0} (v x s : ℕ) (y : X) (e : TableFault) → Err e ≡ on_segment v s y → Err e ≡ on_segment (min v x) s y
+unfolding on_segment
+search_refused v x s y e h = grind (arith, nat_tests)

@@ -1,8 +1,9 @@
 -- The first row of a join that passes a test: the upper's, or else the lower's, numbered on. Assumes
 -- nothing.
-use Rattle.std.proofs.Common.{◌≡◌, ℕ, zero, suc, ◌+◌, ◌-◌, ◌<◌, ◌≤◌, Bool, true, false, cond, ltb, ◌⊎◌, List, [], ◌∷◌, ◌++◌, map, length, take, Some, None, Option, sym, refl, ap, ◌∙◌, inl, inr, arith}
-use Rattle.std.proofs.lemmas.Bool.{cases_lt, lt-ltb, le-ltb}
-use Rattle.std.specs.Option.{option_map, option_or}
+use Rattle.std.proofs.Common.{◌≡◌, ℕ, zero, suc, ◌+◌, ◌-◌, ◌≤◌, Bool, true, false, cond, List, [], ◌∷◌, ◌++◌, map, length, take, Some, None, Option, sym, refl, ap, ◌∙◌, arith}
+use Rattle.std.proofs.lemmas.Bool.{lt-ltb}
+use Rattle.std.proofs.lemmas.Bool.Decides.{nat_tests}
+use Rattle.std.specs.Option.{MatchOption, option_map, option_or}
 use Rattle.table.proofs.Splits.{first-append, first-map, first-within}
 use Rattle.table.specs.Calls.{first}
 use Rattle.table.specs.Row.{Row}
@@ -10,15 +11,11 @@ use Rattle.join.specs.Joined.{cut_row, join_rows, within}
 
 within_none : (o : Option ℕ) → within 0 o ≡ None
 within_none None = refl
-within_none (Some k) = rw (le-ltb k 0 (omega arith))
+within_none (Some k) = grind (arith, nat_tests)
 
 within-suc : (n : ℕ) (o : Option ℕ) → option_map suc (within n o) ≡ within (suc n) (option_map suc o)
 within-suc n None = refl
-within-suc n (Some k) = by_order (cases_lt k n)
-  where
-    by_order : (k < n) ⊎ (n ≤ k) → option_map suc (cond (ltb k n) (Some k) None) ≡ cond (ltb (suc k) (suc n)) (Some (suc k)) None
-    by_order (inl lt) = rw (lt-ltb k n lt, lt-ltb (suc k) (suc n) (omega arith))
-    by_order (inr le) = rw (le-ltb k n le, le-ltb (suc k) (suc n) (omega arith))
+within-suc n (Some k) = grind (arith, nat_tests)
 
 module _ (p : Row → Bool) where
   first-take : (n : ℕ) (rs : List Row) (i : ℕ) → first p (take n rs) i ≡ within n (first p rs i)
@@ -39,11 +36,10 @@ module _ (p : Row → Bool) where
     unfolding join_rows
     first_join same = first-take n (map (cut_row w) (us ++ ls)) i ∙ ap (within n) (first-map p (cut_row w) same (us ++ ls) i ∙ first-append p us ls i)
 
-    pub first_upper : ((row : Row) → p (cut_row w row) ≡ p row) → length us ≤ n → (a : ℕ) → Some a ≡ first p us i → Some a ≡ first p (join_rows n w us ls) i
-    first_upper same few a e =
+    -- what the upper table found, or else what the lower one found
+    pub first_found : ((row : Row) → p (cut_row w row) ≡ p row) → length us ≤ n → (Q : Type 0) (found r : Option ℕ) → found ≡ first p us i
+        → MatchOption found Q (λ a. r ≡ Some a) → (Q → r ≡ within n (option_map (λ k. length us + k) (first p ls (i - length us)))) → r ≡ first p (join_rows n w us ls) i
+    first_found same few Q None r e m later = later m ∙ sym (first_join same ∙ rw (← e))
+    first_found same few Q (Some a) r e m later =
         let lt = first-within p us i a (sym e) in
-        sym (first_join same ∙ rw (← e, lt-ltb a n (omega arith)))
-
-    pub first_lower : ((row : Row) → p (cut_row w row) ≡ p row) → (d from : ℕ) (found r : Option ℕ) → None ≡ first p us i
-        → d ≡ length us → from ≡ i - d → found ≡ first p ls from → r ≡ within n (option_map (λ k. d + k) found) → r ≡ first p (join_rows n w us ls) i
-    first_lower same d from found r e at start got out = out ∙ sym (first_join same ∙ rw (← e, got, start, at))
+        m ∙ sym (first_join same ∙ rw (← e, lt-ltb a n (omega arith)))

@@ -1,4 +1,5 @@
 pub mod Alls
+pub mod Calls
 pub mod Cuts
 pub mod Firsts
 pub mod Parts

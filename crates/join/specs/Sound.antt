@@ -5,13 +5,15 @@ use Rattle.std.proofs.ByRecursion.{All-append, All-map, All-take, All-weaker}
 use Rattle.std.proofs.lemmas.List.{length-take, length-take-le}
 use Rattle.table.specs.Laws.{Sound, SoundRow}
 use Rattle.table.specs.Row.{Row}
-use Rattle.join.specs.Joined.{cut_row, join_rows}
+use Rattle.table.specs.declared.tables.Table.{Ghosts}
+use Rattle.join.specs.Joined.{cut_row, join_rows, joined_rows, joined_width}
+use Rattle.join.specs.declared.joins.Join.{Join}
 
 -- a row of v words is, cut to w of them, a row of w words
 cut_sound : (v w : ℕ) → w ≤ v → (row : Row) → SoundRow v row → SoundRow w (cut_row w row)
 cut_sound v w le row h = let e = h.wide in record { wide = length-take-le w row.words (omega arith); quiet = h.quiet }
 
-pub join_sound : (v w : ℕ) (us ls : List Row) → Sound v us → Sound w ls → Sound (min v w) (join_rows 262144 (min v w) us ls)
+join_sound : (v w : ℕ) (us ls : List Row) → Sound v us → Sound w ls → Sound (min v w) (join_rows 262144 (min v w) us ls)
 unfolding join_rows
 join_sound v w us ls h k = record {
   some = let a = h.some in let b = k.some in omega arith;
@@ -23,3 +25,6 @@ join_sound v w us ls h k = record {
       (All-weaker (SoundRow v) (λ row. SoundRow (min v w) (cut_row (min v w) row)) (cut_sound v (min v w) (omega arith)) us h.each)
       (All-weaker (SoundRow w) (λ row. SoundRow (min v w) (cut_row (min v w) row)) (cut_sound w (min v w) (omega arith)) ls k.each)));
 }
+
+pub joined_sound : {U L : Type 0} (u : Ghosts U) (l : Ghosts L) (j : Join U L) → Sound (joined_width u l j) (joined_rows u l j)
+joined_sound u l j = join_sound (u.width j.upper) (l.width j.lower) (u.rows j.upper) (l.rows j.lower) (u.sound j.upper) (l.sound j.lower)

@@ -10,7 +10,7 @@ pub struct Join<U, L> {
 
 // Which of the two tables holds a row, with the row's number there.
 #[derive(Clone, Copy)]
-pub enum Seat {
+pub(crate) enum Seat {
     Upper(u32),
     Lower(u32),
 }

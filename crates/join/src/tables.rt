@@ -1,15 +1,14 @@
 // A join is a table, over every two tables.
-ghost use Rattle.std.specs.Prelude.{◌≡◌, ◌+◌, min, length};
+ghost use Rattle.std.specs.Prelude.{◌≡◌, ◌+◌, Bool, List, min, length};
 ghost use Rattle.std.specs.Option.{option_map};
-ghost use Rattle.table.specs.Calls.{on_cell, on_row};
-ghost use Rattle.join.specs.Joined.{joined_rows, joined_width, seat_of, within};
-ghost use Rattle.join.specs.Sound.{join_sound};
+ghost use Rattle.table.specs.Calls.{first, on_cell, on_row};
+ghost use Rattle.table.specs.Questions.{TellsFirst};
+ghost use Rattle.table.specs.Row.{Row};
+ghost use Rattle.join.specs.Joined.{Uncut, joined_rows, joined_width, seat_of, within};
+ghost use Rattle.join.specs.Sound.{joined_sound};
 
 use crate::joins::{Join, Seat};
-use table::{Marking, Marks, Purge, Search, Shape, Table, TableFault};
-
-// No table is deeper.
-const MAX_DEPTH: u32 = 262_144;
+use table::{MAX_DEPTH, Marking, Marks, Purge, Search, Shape, Table, TableFault};
 
 // The shape of a join of two tables of these shapes.
 fn together(upper: Shape, lower: Shape) -> Shape
@@ -25,13 +24,12 @@ fn together(upper: Shape, lower: Shape) -> Shape
 fn below(border: u32, found: Option<u32>) -> Option<u32>
     ensures answer { result ≡ within 262144 (option_map (λ row. border + row) found) }
 {
-    match found {
-        Some(row) if row < MAX_DEPTH.saturating_sub(border) => Some(border + row),
-        _ => None,
-    }
+    found
+        .and_then(|row| border.checked_add(row))
+        .filter(|row| *row < MAX_DEPTH)
 }
 
-// Whether a row is in the upper table, which has `border` rows, or in the lower.
+// Where a row lies in a join, of which the upper table has the first `border` rows.
 fn seat(border: u32, row: u32) -> Seat
     ensures answer { result ≡ seat_of border row }
 {
@@ -43,41 +41,49 @@ fn seat(border: u32, row: u32) -> Seat
 }
 
 impl<U: Table, L: Table> Join<U, L> {
-    // Where the row that was asked for lies, if the join has it.
-    fn holder(&self, asked: u32) -> Result<Seat, TableFault>
-        ensures answer { result ≡ on_row (joined_rows U.Table.width L.Table.width 262144 U.Table.rows L.Table.rows self.now) asked (seat_of (length (U.Table.rows self.now.upper)) asked) }
+    // Which of the two tables holds a row, if the join has it.
+    fn holder(&self, row: u32) -> Result<Seat, TableFault>
+        ensures answer { result ≡ on_row (joined_rows U.Table L.Table self.now) row (seat_of (length (U.Table.rows self.now.upper)) row) }
     {
         let upper = self.upper.shape();
-        let joined = together(upper, self.lower.shape());
-        if asked < joined.depth {
-            Ok(seat(upper.depth, asked))
-        } else {
-            Err(TableFault::Row(asked))
-        }
+        together(upper, self.lower.shape()).check_row(row)?;
+        Ok(seat(upper.depth, row))
     }
 
     // The same, if the join has that segment too.
     fn cell(&self, row: u32, segment: u32) -> Result<Seat, TableFault>
-        ensures answer { result ≡ on_cell (joined_width U.Table.width L.Table.width self.now) (joined_rows U.Table.width L.Table.width 262144 U.Table.rows L.Table.rows self.now) row segment (seat_of (length (U.Table.rows self.now.upper)) row) }
+        ensures answer { result ≡ on_cell (joined_width U.Table L.Table self.now) (joined_rows U.Table L.Table self.now) row segment (seat_of (length (U.Table.rows self.now.upper)) row) }
     {
         let upper = self.upper.shape();
-        let joined = together(upper, self.lower.shape());
-        if row >= joined.depth {
-            Err(TableFault::Row(row))
-        } else if segment >= joined.width {
-            Err(TableFault::Segment(segment))
-        } else {
-            Ok(seat(upper.depth, row))
-        }
+        together(upper, self.lower.shape()).check_cell(row, segment)?;
+        Ok(seat(upper.depth, row))
+    }
+
+    // The first row, `from` or later, that one of two questions names: the lower table is asked only
+    // if the upper has no such row.
+    fn first_of<F: FnOnce(&U, u32) -> Option<u32>, G: FnOnce(&L, u32) -> Option<u32>>(
+        &self,
+        from: u32,
+        upper: F,
+        lower: G,
+    ) -> Option<u32>
+        requires above { F.IsAlwaysCallable upper }
+        requires under { G.IsAlwaysCallable lower }
+        ensures answer { (p : Row → Bool) → Uncut p → TellsFirst U.Table F.FnOnce upper p → TellsFirst L.Table G.FnOnce lower p → result ≡ first p (joined_rows U.Table L.Table self.now) from }
+    {
+        upper(&self.upper, from).or_else(|| {
+            let border = self.upper.shape().depth;
+            below(border, lower(&self.lower, from.saturating_sub(border)))
+        })
     }
 }
 
 impl<U: Table, L: Table> Table for Join<U, L> {
-    ghost width = { joined_width U.Table.width L.Table.width };
+    ghost width = { joined_width U.Table L.Table };
 
-    ghost rows = { joined_rows U.Table.width L.Table.width 262144 U.Table.rows L.Table.rows };
+    ghost rows = { joined_rows U.Table L.Table };
 
-    ghost sound = { λ j. join_sound (U.Table.width j.upper) (L.Table.width j.lower) (U.Table.rows j.upper) (L.Table.rows j.lower) (U.Table.sound j.upper) (L.Table.sound j.lower) };
+    ghost sound = { joined_sound U.Table L.Table };
 
     ghost frame = { λ a b. U.Table.frame a.upper b.upper × L.Table.frame a.lower b.lower };
 
@@ -118,32 +124,17 @@ impl<U: Table, L: Table> Table for Join<U, L> {
     }
 
     fn search(&mut self, query: Search) -> Result<(), TableFault> {
-        if query.segment >= self.shape().width {
-            return Err(TableFault::Segment(query.segment));
-        }
+        self.shape().check_segment(query.segment)?;
         self.upper.search(query)?;
         self.lower.search(query)
     }
 
-    // The lower table is asked only if the upper has no such row.
     fn first_hit(&self, from: u32) -> Option<u32> {
-        match self.upper.first_hit(from) {
-            Some(row) => Some(row),
-            None => {
-                let border = self.upper.shape().depth;
-                below(border, self.lower.first_hit(from.saturating_sub(border)))
-            }
-        }
+        self.first_of(from, U::first_hit, L::first_hit)
     }
 
     fn first_empty(&self, from: u32) -> Option<u32> {
-        match self.upper.first_empty(from) {
-            Some(row) => Some(row),
-            None => {
-                let border = self.upper.shape().depth;
-                below(border, self.lower.first_empty(from.saturating_sub(border)))
-            }
-        }
+        self.first_of(from, U::first_empty, L::first_empty)
     }
 
     fn purge(&mut self, kind: Purge) {

@@ -4,9 +4,7 @@ ghost use Rattle.table.specs.Calls.{first, granted, on_segment};
 ghost use Rattle.table.specs.Row.{is_hit, searched};
 ghost use Rattle.pile.specs.Piles.{PairFrame, pair_rows, pair_width};
 
-use crate::pairs::{find, pair};
-use fence::Fence;
-use join::Join;
+use crate::pairs::{Pair, find, pair};
 use table::{Search, Table, TableFault};
 
 // `hidden` rows are hidden of the whole, and as many of each pair before the pairs are joined.
@@ -16,20 +14,20 @@ pub fn four<A: Table, B: Table, C: Table, D: Table>(
     b: B,
     c: C,
     d: D,
-) -> Fence<Join<Fence<Join<A, B>>, Fence<Join<C, D>>>>
+) -> Pair<Pair<A, B>, Pair<C, D>>
     ensures answer { result ≡ record { hidden = hidden; table = record { upper = record { hidden = hidden; table = record { upper = a; lower = b } }; lower = record { hidden = hidden; table = record { upper = c; lower = d } } } } }
 {
     pair(hidden, pair(hidden, a, b), pair(hidden, c, d))
 }
 
 pub fn find_in_four<A: Table, B: Table, C: Table, D: Table>(
-    four: &mut Fence<Join<Fence<Join<A, B>>, Fence<Join<C, D>>>>,
+    four: &mut Pair<Pair<A, B>, Pair<C, D>>,
     query: Search,
 ) -> Result<Option<u32>, TableFault>
-    ensures answer { result ≡ on_segment (pair_width (pair_width A.Table.width B.Table.width) (pair_width C.Table.width D.Table.width) four.old) query.segment (first is_hit (map (searched query) (pair_rows (pair_width A.Table.width B.Table.width) (pair_width C.Table.width D.Table.width) 262144 (pair_rows A.Table.width B.Table.width 262144 A.Table.rows B.Table.rows) (pair_rows C.Table.width D.Table.width 262144 C.Table.rows D.Table.rows) four.old)) 0) }
-    ensures rows { pair_rows (pair_width A.Table.width B.Table.width) (pair_width C.Table.width D.Table.width) 262144 (pair_rows A.Table.width B.Table.width 262144 A.Table.rows B.Table.rows) (pair_rows C.Table.width D.Table.width 262144 C.Table.rows D.Table.rows) four.new ≡ granted result (map (searched query) (pair_rows (pair_width A.Table.width B.Table.width) (pair_width C.Table.width D.Table.width) 262144 (pair_rows A.Table.width B.Table.width 262144 A.Table.rows B.Table.rows) (pair_rows C.Table.width D.Table.width 262144 C.Table.rows D.Table.rows) four.old)) (pair_rows (pair_width A.Table.width B.Table.width) (pair_width C.Table.width D.Table.width) 262144 (pair_rows A.Table.width B.Table.width 262144 A.Table.rows B.Table.rows) (pair_rows C.Table.width D.Table.width 262144 C.Table.rows D.Table.rows) four.old) }
-    ensures width { pair_width (pair_width A.Table.width B.Table.width) (pair_width C.Table.width D.Table.width) four.new ≡ pair_width (pair_width A.Table.width B.Table.width) (pair_width C.Table.width D.Table.width) four.old }
-    ensures frame { PairFrame (PairFrame A.Table.frame B.Table.frame) (PairFrame C.Table.frame D.Table.frame) four.old four.new }
+    ensures answer { result ≡ on_segment (pair_width ⟦<Pair<A, B> as Table>⟧ ⟦<Pair<C, D> as Table>⟧ four.old) query.segment (first is_hit (map (searched query) (pair_rows ⟦<Pair<A, B> as Table>⟧ ⟦<Pair<C, D> as Table>⟧ four.old)) 0) }
+    ensures rows { pair_rows ⟦<Pair<A, B> as Table>⟧ ⟦<Pair<C, D> as Table>⟧ four.new ≡ granted result (map (searched query) (pair_rows ⟦<Pair<A, B> as Table>⟧ ⟦<Pair<C, D> as Table>⟧ four.old)) (pair_rows ⟦<Pair<A, B> as Table>⟧ ⟦<Pair<C, D> as Table>⟧ four.old) }
+    ensures width { pair_width ⟦<Pair<A, B> as Table>⟧ ⟦<Pair<C, D> as Table>⟧ four.new ≡ pair_width ⟦<Pair<A, B> as Table>⟧ ⟦<Pair<C, D> as Table>⟧ four.old }
+    ensures frame { PairFrame ⟦<Pair<A, B> as Table>⟧ ⟦<Pair<C, D> as Table>⟧ four.old four.new }
 {
     find(four, query)
 }

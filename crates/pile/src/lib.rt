@@ -5,4 +5,4 @@ mod fours;
 mod pairs;
 
 pub use fours::{find_in_four, four};
-pub use pairs::{find, find_in_pair, pair};
+pub use pairs::{Pair, find, find_in_pair, pair};

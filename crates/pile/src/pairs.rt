@@ -1,4 +1,4 @@
-// Two tables joined behind a fence.
+// Pairs of tables, and the search of one.
 ghost use Rattle.std.specs.Prelude.{◌≡◌, map};
 ghost use Rattle.table.specs.Calls.{first, granted, on_segment};
 ghost use Rattle.table.specs.Row.{is_hit, searched};
@@ -8,7 +8,10 @@ use fence::Fence;
 use join::Join;
 use table::{Search, Table, TableFault};
 
-pub fn pair<A: Table, B: Table>(hidden: u32, upper: A, lower: B) -> Fence<Join<A, B>>
+// Two tables joined behind a fence.
+pub type Pair<A, B> = Fence<Join<A, B>>;
+
+pub fn pair<A: Table, B: Table>(hidden: u32, upper: A, lower: B) -> Pair<A, B>
     ensures answer { result ≡ record { hidden = hidden; table = record { upper = upper; lower = lower } } }
 {
     Fence::new(hidden, Join::new(upper, lower))
@@ -27,13 +30,13 @@ pub fn find<T: Table>(table: &mut T, query: Search) -> Result<Option<u32>, Table
 
 // The same on a pair, told by the rows of its two tables.
 pub fn find_in_pair<A: Table, B: Table>(
-    pair: &mut Fence<Join<A, B>>,
+    pair: &mut Pair<A, B>,
     query: Search,
 ) -> Result<Option<u32>, TableFault>
-    ensures answer { result ≡ on_segment (pair_width A.Table.width B.Table.width pair.old) query.segment (first is_hit (map (searched query) (pair_rows A.Table.width B.Table.width 262144 A.Table.rows B.Table.rows pair.old)) 0) }
-    ensures rows { pair_rows A.Table.width B.Table.width 262144 A.Table.rows B.Table.rows pair.new ≡ granted result (map (searched query) (pair_rows A.Table.width B.Table.width 262144 A.Table.rows B.Table.rows pair.old)) (pair_rows A.Table.width B.Table.width 262144 A.Table.rows B.Table.rows pair.old) }
-    ensures width { pair_width A.Table.width B.Table.width pair.new ≡ pair_width A.Table.width B.Table.width pair.old }
-    ensures frame { PairFrame A.Table.frame B.Table.frame pair.old pair.new }
+    ensures answer { result ≡ on_segment (pair_width A.Table B.Table pair.old) query.segment (first is_hit (map (searched query) (pair_rows A.Table B.Table pair.old)) 0) }
+    ensures rows { pair_rows A.Table B.Table pair.new ≡ granted result (map (searched query) (pair_rows A.Table B.Table pair.old)) (pair_rows A.Table B.Table pair.old) }
+    ensures width { pair_width A.Table B.Table pair.new ≡ pair_width A.Table B.Table pair.old }
+    ensures frame { PairFrame A.Table B.Table pair.old pair.new }
 {
     find(pair, query)
 }

@@ -1,16 +1,16 @@
-use Rattle.std.proofs.Common.{ap, arith, rules}
-use Rattle.table.proofs.Checks.{segment_refused}
-use Rattle.join.proofs.Alls.{search_granted, searched_all, segment_stands}
+use Rattle.std.proofs.Common.{◌<◌, arith}
+use Rattle.table.proofs.Shapes.{segment_shaped}
+use Rattle.table.proofs.Told.{segment_told}
+use Rattle.join.proofs.Alls.{searched_all}
 use Rattle.join.proofs.Cuts.{even_searched}
+use Rattle.join.specs.Joined.{joined_rows}
 use Rattle.join.proofs.tables.JoinTable.search.Goals as goal
 
-pub returns-then-query-shape : goal.returns-then-query-shape
-returns-then-query-shape g c = search (rules, segment_refused)
-
-pub returns-in_err-search : goal.returns-in_err-search
-returns-in_err-search g c =
-    let width = ap (λ shape. shape.width) c.shape.ensures.answer in
-    absurd (segment_stands _ _ _ _ (omega arith) c.in_err-search.ensures.answer)
-
-pub returns : goal.returns
-returns g c = let up = c.in_ok-search.ensures in search (rules, search_granted, searched_all, even_searched)
+pub returns-clause-rows : goal.returns-clause-rows
+returns-clause-rows g c =
+    let j = c.args.self.now in
+    let q = c.args.query in
+    let told = segment_told _ _ _ _ (segment_shaped _ _ (joined_rows g.U.Table g.L.Table j) c.shape.ensures.answer _ _ _ c.in_ok-check_segment.ensures.answer) in
+    let within : q.segment < g.L.Table.width j.lower = let lt = told.0 in omega arith in
+    searched_all 262144 _ _ _ _ _ _ _ _ _ q.segment _ c.search-2.result (even_searched _ q told.0) within
+    c.search-2.ensures.answer c.search.ensures.width c.search-2.ensures.width c.in_ok-search.ensures.rows c.search-2.ensures.rows

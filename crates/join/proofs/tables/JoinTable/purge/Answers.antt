@@ -1,7 +1,0 @@
-use Rattle.std.proofs.Common.{rules}
-use Rattle.join.proofs.Alls.{changed_all}
-use Rattle.join.proofs.Cuts.{even_purged}
-use Rattle.join.proofs.tables.JoinTable.purge.Goals as goal
-
-pub returns : goal.returns
-returns g c = search (rules, changed_all, even_purged)
