@@ -1,6 +1,5 @@
 -- No sequence runs past the steps of its channel: each call keeps an end flag before it. Assumes nothing.
-use Rattle.std.proofs.Common.{◌≡◌, ℕ, suc, ◌+◌, ◌<◌, ◌≤◌, Bool, true, false, cond, ◌||◌, ltb, ◌⊎◌, List, length, get_or, Ok, Err, Option, Result, sym, refl, ap, ◌∙◌, subst, inl, inr, add-one, arith}
-use Rattle.std.proofs.lemmas.Bool.{cases_lt, false≢true}
+use Rattle.std.proofs.Common.{◌≡◌, ℕ, ◌+◌, ◌<◌, Bool, true, false, cond, ltb, List, length, get_or, Ok, Err, Option, Result, refl, ap, ◌∙◌, subst, add-one, arith}
 use Rattle.ports.specs.Ahead.{Ahead, InputAhead, OutputAhead, StaysAhead}
 use Rattle.ports.specs.Input.{block_left, channel_in, filled, following, open_asks, open_left, ran, runs, step_at, step_left, taken_input}
 use Rattle.ports.specs.Output.{output_step_at, word_following, word_left}
@@ -31,10 +30,10 @@ use Rattle.table.specs.Row.{Row}
 module _ {X F : Type 0} (x : X) where
   cond_ok : (b : Bool) (r : Result X F) (e : F) → cond b r (Err e) ≡ Ok x → (b ≡ true) × (r ≡ Ok x)
   cond_ok true r e h = (refl, h)
-  cond_ok false r e h = let z : ◌≡◌ {A = ℕ} 0 1 = cc in absurd (omega arith)
+  cond_ok false r e h = (cc, cc)
 
   refused_not_ok : (e : F) → ◌≡◌ {A = Result X F} (Err e) (Ok x) → ⊥
-  refused_not_ok e h = let z : ◌≡◌ {A = ℕ} 0 1 = cc in omega arith
+  refused_not_ok e h = cc
 
 -- a granted item was within its range
 item_ok : (item : Item) (r : Result (Unit {0}) SetUpFault) → item_within OutOfRange item r ≡ Ok tt → r ≡ Ok tt
@@ -46,14 +45,10 @@ item_ok (Segment s) r e = (cond_ok tt (ltb s 8) r (OutOfRange s) e).1
 -- steps with an end flag ahead
 module _ {S : Type 0} (ends : S → Bool) (steps : List S) (n : ℕ) (h : some_ends ends steps n ≡ true) where
   ahead_within : n < length steps
-  ahead_within = by_order (cases_lt n (length steps))
-    where
-      by_order : (n < length steps) ⊎ (length steps ≤ n) → n < length steps
-      by_order (inl lt) = lt
-      by_order (inr le) = absurd (false≢true (sym (some_ends_past ends steps n le) ∙ h))
+  ahead_within = grind (arith, some_ends_past)
 
   ahead_next : (d : S) → ends (get_or steps n d) ≡ false → some_ends ends steps (n + 1) ≡ true
-  ahead_next d e = rw add-one (ap (λ (b : Bool). b || some_ends ends steps (suc n)) (sym e) ∙ sym (some_ends_step ends d steps n ahead_within) ∙ h)
+  ahead_next d e = rw add-one (grind (arith, some_ends_step ends d steps n ahead_within))
 
 -- the steps of a channel, after the set-up of one channel was changed
 module _ (f : ChannelSetUp → ChannelSetUp) (s : SetUp) where

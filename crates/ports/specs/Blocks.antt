@@ -3,8 +3,7 @@
 --   joined a n b    a followed by the n bits b
 --   bit_of          whether bit b of a number is set
 use Rattle.std.specs.Prelude.{◌≡◌, ℕ, ◌+◌, ◌-◌, ◌*◌, ◌/◌, ◌%◌, ◌^◌, Bool, ◌==◌}
-use Rattle.registers.specs.declared.setting.BlockWidth.{BlockWidth}
-use Rattle.registers.specs.declared.setting.BlockWidth.TheVariants.{Eight, Sixteen, ThirtyTwo}
+pub use Rattle.registers.specs.Setting.{bits_of}
 use Rattle.registers.specs.declared.state.Buffers.{Buffers}
 
 abbrev pub low : ℕ → ℕ → ℕ
@@ -18,11 +17,6 @@ joined a n b = a * 2 ^ n + b
 
 abbrev pub bit_of : ℕ → ℕ → Bool
 bit_of word b = word / 2 ^ b % 2 == 1
-
-abbrev pub bits_of : BlockWidth → ℕ
-bits_of Eight = 8
-bits_of Sixteen = 16
-bits_of ThirtyTwo = 32
 
 -- a block of w bits comes in at the low end of the accumulation buffer, and what leaves its top
 -- comes in at the low end of the other one

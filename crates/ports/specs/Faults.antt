@@ -1,8 +1,7 @@
 -- The number, the place and the step of each refusal of a port; a command's keeps its own number and
 -- place. Assumes nothing.
---   told, at_step   a command's answer to a step, and as the port's answer
+--   at_step   a command's answer to a step, as the port's answer
 use Rattle.std.specs.Prelude.{ℕ, Some, None, Ok, Err, Option, Result}
-use Rattle.ports.specs.declared.faults.AtStep.{AtStep}
 use Rattle.ports.specs.declared.faults.PortFault.{PortFault}
 use Rattle.ports.specs.declared.faults.PortFault.TheVariants.{NotStarted, HasEnded, TooWide, BlocksGone, InCommand}
 use Rattle.processor.specs.Faults as command
@@ -30,10 +29,6 @@ step_in HasEnded = None
 step_in (TooWide step) = Some step
 step_in (BlocksGone step) = Some step
 step_in (InCommand at) = Some at.step
-
-abbrev pub told : {X : Type 0} → ℕ → Result X CommandFault → Result X AtStep
-told step (Ok x) = Ok x
-told step (Err fault) = Err (record { step = step; fault = fault })
 
 abbrev pub at_step : {X : Type 0} → ℕ → Result X CommandFault → Result X PortFault
 at_step step (Ok x) = Ok x

@@ -3,3 +3,4 @@ pub mod Blocks
 pub mod Faults
 pub mod Input
 pub mod Output
+pub mod Texts

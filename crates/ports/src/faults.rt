@@ -1,10 +1,10 @@
 // What the ports refuse.
 ghost use Rattle.std.specs.Prelude.{◌≡◌};
-ghost use Rattle.ports.specs.Faults.{number_of, place_of, step_in, told};
+ghost use Rattle.ports.specs.Faults.{number_of, place_of, step_in};
 ghost use Rattle.ports.specs.declared.faults.PortFault.TheVariants.{InCommand};
 
 use processor::CommandFault;
-use table::Place;
+use table::{Place, Refusal};
 
 // What a command refused to a step of a port, whole.
 #[derive(Clone, Copy, PartialEq, Eq, Debug)]
@@ -32,20 +32,12 @@ impl From<AtStep> for PortFault {
     }
 }
 
-// A command's answer to a step.
-pub(crate) fn at_step<X>(step: u32, answer: Result<X, CommandFault>) -> Result<X, AtStep>
-    ensures answer { result ≡ told step answer }
-{
-    match answer {
-        Ok(x) => Ok(x),
-        Err(fault) => Err(AtStep { step, fault }),
-    }
-}
+impl Refusal for PortFault {
+    ghost numbered = { number_of };
 
-impl PortFault {
-    pub fn number(self) -> u32
-        ensures answer { result ≡ number_of self }
-    {
+    ghost found_at = { place_of };
+
+    fn number(self) -> u32 {
         match self {
             PortFault::NotStarted => 11,
             PortFault::HasEnded => 12,
@@ -55,27 +47,22 @@ impl PortFault {
         }
     }
 
-    pub fn place(self) -> Place
-        ensures answer { result ≡ place_of self }
-    {
+    fn place(self) -> Place {
         match self {
             PortFault::InCommand(at) => at.fault.place(),
-            PortFault::NotStarted => Place::Port,
-            PortFault::HasEnded => Place::Port,
-            PortFault::TooWide(_) => Place::Port,
-            PortFault::BlocksGone(_) => Place::Port,
+            _ => Place::Port,
         }
     }
+}
 
+impl PortFault {
     // The step that was refused, and stays next.
     pub fn step(self) -> Option<u32>
         ensures answer { result ≡ step_in self }
     {
         match self {
-            PortFault::NotStarted => None,
-            PortFault::HasEnded => None,
-            PortFault::TooWide(step) => Some(step),
-            PortFault::BlocksGone(step) => Some(step),
+            PortFault::NotStarted | PortFault::HasEnded => None,
+            PortFault::TooWide(step) | PortFault::BlocksGone(step) => Some(step),
             PortFault::InCommand(at) => Some(at.step),
         }
     }

@@ -1,19 +1,16 @@
 -- The first row behind an address, though an address is a number of 32 bits. Assumes nothing.
-use Rattle.std.proofs.Common.{◌≡◌, ℕ, ◌+◌, ◌-◌, ◌^◌, ◌<◌, ◌≤◌, min, Bool, ◌⊎◌, List, length, None, sym, ap, ◌∙◌, inl, inr, arith}
-use native.Mathlib.Nat.{min-eq_left}
-use Rattle.std.proofs.lemmas.Bool.{cases_lt}
-use Rattle.table.proofs.First.{first_from_least}
+use Rattle.std.proofs.Common.{◌≡◌, ℕ, ◌+◌, ◌-◌, ◌^◌, ◌≤◌, min, Bool, List, length, None, Some, Option, MatchOption, ◌∙◌, arith}
+use Rattle.processor.specs.Walks.{after}
+use Rattle.table.proofs.Splits.{first_past}
 use Rattle.table.specs.Calls.{first}
 use Rattle.table.specs.Row.{Row}
 
-module _ (p : Row → Bool) (rs : List Row) where
-  pub first_past : (n : ℕ) → length rs ≤ n → first p rs n ≡ None
-  first_past n h = sym (first_from_least p rs n None (λ k from below. absurd (omega arith)))
-
+module _ (p : Row → Bool) (rs : List Row) (few : length rs ≤ 262144) where
   -- past the last number of 32 bits there is no row
-  pub first_next : (row : ℕ) → length rs ≤ 262144 → first p rs (min (row + 1) (2 ^ 32 - 1)) ≡ first p rs (row + 1)
-  first_next row few = by_order (cases_lt row (2 ^ 32 - 1))
-    where
-      by_order : (row < 2 ^ 32 - 1) ⊎ (2 ^ 32 - 1 ≤ row) → first p rs (min (row + 1) (2 ^ 32 - 1)) ≡ first p rs (row + 1)
-      by_order (inl h) = let le : row + 1 ≤ 2 ^ 32 - 1 = omega arith in ap (first p rs) (min-eq_left le)
-      by_order (inr h) = first_past (min (row + 1) (2 ^ 32 - 1)) (omega arith) ∙ sym (first_past (row + 1) (omega arith))
+  first_next : (row : ℕ) → first p rs (min (row + 1) (2 ^ 32 - 1)) ≡ first p rs (row + 1)
+  first_next row = grind (arith, first_past)
+
+  -- the first row behind an address, from the answer to the question at the next number
+  pub after_first : (address r : Option ℕ) → MatchOption address (r ≡ None) (λ row. r ≡ first p rs (min (row + 1) (2 ^ 32 - 1))) → r ≡ after p rs address
+  after_first None r e = e
+  after_first (Some row) r e = e ∙ first_next row

@@ -3,7 +3,7 @@ ghost use Rattle.std.specs.Prelude.{◌≡◌};
 ghost use Rattle.processor.specs.Faults.{number_of, place_of};
 ghost use Rattle.processor.specs.declared.faults.CommandFault.TheVariants.{InTable};
 
-use table::{Place, TableFault};
+use table::{Place, Refusal, TableFault};
 
 // A command at an address that is not there, or what the table refused, whole.
 #[derive(Clone, Copy, PartialEq, Eq, Debug)]
@@ -21,10 +21,12 @@ impl From<TableFault> for CommandFault {
     }
 }
 
-impl CommandFault {
-    pub fn number(self) -> u32
-        ensures answer { result ≡ number_of self }
-    {
+impl Refusal for CommandFault {
+    ghost numbered = { number_of };
+
+    ghost found_at = { place_of };
+
+    fn number(self) -> u32 {
         match self {
             CommandFault::NoHitAddress => 5,
             CommandFault::NoEmptyAddress => 6,
@@ -32,12 +34,9 @@ impl CommandFault {
         }
     }
 
-    pub fn place(self) -> Place
-        ensures answer { result ≡ place_of self }
-    {
+    fn place(self) -> Place {
         match self {
-            CommandFault::NoHitAddress => Place::Command,
-            CommandFault::NoEmptyAddress => Place::Command,
+            CommandFault::NoHitAddress | CommandFault::NoEmptyAddress => Place::Command,
             CommandFault::InTable(fault) => fault.place(),
         }
     }

@@ -1,5 +1,6 @@
 // The calls that read or change rows. None but reset changes a register.
 ghost use Rattle.std.specs.Prelude.{◌≡◌, map};
+ghost use Rattle.std.specs.Option.{ok_or};
 ghost use Rattle.processor.specs.Commands.{at_address, became_valid, change_at, command};
 ghost use Rattle.processor.specs.declared.faults.CommandFault.TheVariants.{NoHitAddress, NoEmptyAddress};
 ghost use Rattle.registers.specs.Fresh.{fresh};
@@ -46,14 +47,27 @@ impl<T: Table> Processor<T> {
         Ok(())
     }
 
+    fn hit_address(&self) -> Result<u32, CommandFault>
+        ensures answer { result ≡ ok_or self.now.registers.found.address NoHitAddress }
+    {
+        self.registers
+            .found
+            .address
+            .ok_or(CommandFault::NoHitAddress)
+    }
+
+    fn empty_address(&self) -> Result<u32, CommandFault>
+        ensures answer { result ≡ ok_or self.now.registers.empty NoEmptyAddress }
+    {
+        self.registers.empty.ok_or(CommandFault::NoEmptyAddress)
+    }
+
     // The word in a segment of the row at the hit address.
     pub fn read_at_hit(&self, segment: u32) -> Result<u32, CommandFault>
         ensures answer { result ≡ at_address NoHitAddress (λ row. on_cell (T.width self.now.table) (T.rows self.now.table) row segment (word_at (T.rows self.now.table) row segment)) self.now.registers.found.address }
     {
-        match self.registers.found.address {
-            None => Err(CommandFault::NoHitAddress),
-            Some(hit) => self.read(hit, segment),
-        }
+        let hit = self.hit_address()?;
+        self.read(hit, segment)
     }
 
     // Replaces the word in a segment of the row at the hit address.
@@ -64,20 +78,16 @@ impl<T: Table> Processor<T> {
         ensures width { T.width self.new.table ≡ T.width self.old.table }
         ensures frame { T.frame self.old.table self.new.table }
     {
-        match self.registers.found.address {
-            None => Err(CommandFault::NoHitAddress),
-            Some(hit) => self.write(hit, segment, word),
-        }
+        let hit = self.hit_address()?;
+        self.write(hit, segment, word)
     }
 
     // The word in a segment of the row at the empty address.
     pub fn read_at_empty(&self, segment: u32) -> Result<u32, CommandFault>
         ensures answer { result ≡ at_address NoEmptyAddress (λ row. on_cell (T.width self.now.table) (T.rows self.now.table) row segment (word_at (T.rows self.now.table) row segment)) self.now.registers.empty }
     {
-        match self.registers.empty {
-            None => Err(CommandFault::NoEmptyAddress),
-            Some(empty) => self.read(empty, segment),
-        }
+        let empty = self.empty_address()?;
+        self.read(empty, segment)
     }
 
     // Replaces the word in a segment of the row at the empty address.
@@ -88,13 +98,12 @@ impl<T: Table> Processor<T> {
         ensures width { T.width self.new.table ≡ T.width self.old.table }
         ensures frame { T.frame self.old.table self.new.table }
     {
-        match self.registers.empty {
-            None => Err(CommandFault::NoEmptyAddress),
-            Some(empty) => self.write(empty, segment, word),
-        }
+        let empty = self.empty_address()?;
+        self.write(empty, segment, word)
     }
 
     // Makes the row at the empty address valid; its access mark stays.
+    #[tactic(auto, using(crate::proofs::Valid::change_valid), unfolding(table::specs::Calls::on_row))]
     pub fn append(&mut self) -> Result<(), CommandFault>
         ensures answer { result ≡ at_address NoEmptyAddress (λ row. on_row (T.rows self.old.table) row tt) self.old.registers.empty }
         ensures registers { self.new.registers ≡ self.old.registers }
@@ -102,18 +111,14 @@ impl<T: Table> Processor<T> {
         ensures width { T.width self.new.table ≡ T.width self.old.table }
         ensures frame { T.frame self.old.table self.new.table }
     {
-        match self.registers.empty {
-            None => Err(CommandFault::NoEmptyAddress),
-            Some(row) => {
-                let marks = self.table.marks(row)?;
-                let valid = Marking {
-                    empty: false,
-                    access: marks.access,
-                };
-                self.table.set_marks(row, valid)?;
-                Ok(())
-            }
-        }
+        let empty = self.empty_address()?;
+        let marks = self.table.marks(empty)?;
+        let valid = Marking {
+            empty: false,
+            access: marks.access,
+        };
+        self.table.set_marks(empty, valid)?;
+        Ok(())
     }
 
     pub fn purge(&mut self, kind: Purge)

@@ -2,10 +2,13 @@
 --   within       a number is checked against its limit before the rest
 --   closed       the answer while no sequence, or an open one, stands against it
 --   numbered     the channel of a number
+--   channel_from, width_from
+--                the channel and the width of a block that a number names, if it names one
 --   channel_of   the set-up of a channel
 --   …_checked    the answer of a set-up call: its numbers in order, then the port's sequence
 --   …_set        the registers after a set-up call that was granted
 use Rattle.std.specs.Prelude.{ℕ, Bool, true, false, cond, ◌||◌, Ok, Err, Result, ◌==◌, nat_lt, slice_set}
+use Rattle.registers.specs.declared.faults.OutOfRange.{OutOfRange as NotOne}
 use Rattle.registers.specs.declared.faults.SetUpFault.{SetUpFault}
 use Rattle.registers.specs.declared.faults.SetUpFault.TheVariants.{OutOfRange, SequenceOpen}
 use Rattle.registers.specs.declared.setting.BlockWidth.{BlockWidth}
@@ -35,6 +38,12 @@ closed s = cond (is_open s) (Err SequenceOpen) (Ok tt)
 
 abbrev pub numbered : ℕ → Channel
 numbered n = cond (n == 0) A B
+
+abbrev pub not_one : ℕ → NotOne
+not_one n = record { 0 = n }
+
+abbrev pub channel_from : ℕ → Result Channel NotOne
+channel_from n = within not_one n 2 (Ok (numbered n))
 
 abbrev pub channel_of : SetUp → Channel → ChannelSetUp
 channel_of s A = s.a
@@ -92,6 +101,15 @@ is_width bits = bits == 8 || (bits == 16 || bits == 32)
 
 abbrev pub width_of : ℕ → BlockWidth
 width_of bits = cond (bits == 8) Eight (cond (bits == 16) Sixteen ThirtyTwo)
+
+-- the bits of a block
+abbrev pub bits_of : BlockWidth → ℕ
+bits_of Eight = 8
+bits_of Sixteen = 16
+bits_of ThirtyTwo = 32
+
+abbrev pub width_from : ℕ → Result BlockWidth NotOne
+width_from bits = cond (is_width bits) (Ok (width_of bits)) (Err (not_one bits))
 
 abbrev pub width_checked : ℕ → Registers → Result (Unit {0}) SetUpFault
 width_checked bits g = cond (is_width bits) (closed g.input.sequence) (Err (OutOfRange bits))

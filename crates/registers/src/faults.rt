@@ -4,10 +4,10 @@ ghost use Rattle.registers.specs.Faults.{set_up_number, set_up_place, start_numb
 ghost use Rattle.registers.specs.declared.faults.SetUpFault.TheVariants.{OutOfRange as SetUpRange};
 ghost use Rattle.registers.specs.declared.faults.StartFault.TheVariants.{OutOfRange as StartRange};
 
-use table::Place;
+use table::{Place, Refusal};
 
 // A number that is too large for what it should name.
-#[derive(Clone, Copy)]
+#[derive(Clone, Copy, PartialEq, Eq, Debug)]
 pub struct OutOfRange(pub u32);
 
 // A set-up is refused for a number, or while the port that it is for is in a sequence.
@@ -52,30 +52,29 @@ pub(crate) fn below(number: u32, limit: u32) -> Result<(), OutOfRange>
     }
 }
 
-impl SetUpFault {
-    pub fn number(self) -> u32
-        ensures answer { result ≡ set_up_number self }
-    {
+impl Refusal for SetUpFault {
+    ghost numbered = { set_up_number };
+
+    ghost found_at = { set_up_place };
+
+    fn number(self) -> u32 {
         match self {
             SetUpFault::OutOfRange(_) => 7,
             SetUpFault::SequenceOpen => 8,
         }
     }
 
-    pub fn place(self) -> Place
-        ensures answer { result ≡ set_up_place self }
-    {
-        match self {
-            SetUpFault::OutOfRange(_) => Place::SetUp,
-            SetUpFault::SequenceOpen => Place::SetUp,
-        }
+    fn place(self) -> Place {
+        Place::SetUp
     }
 }
 
-impl StartFault {
-    pub fn number(self) -> u32
-        ensures answer { result ≡ start_number self }
-    {
+impl Refusal for StartFault {
+    ghost numbered = { start_number };
+
+    ghost found_at = { start_place };
+
+    fn number(self) -> u32 {
         match self {
             StartFault::OutOfRange(_) => 7,
             StartFault::NoHead => 9,
@@ -83,13 +82,7 @@ impl StartFault {
         }
     }
 
-    pub fn place(self) -> Place
-        ensures answer { result ≡ start_place self }
-    {
-        match self {
-            StartFault::OutOfRange(_) => Place::Start,
-            StartFault::NoHead => Place::Start,
-            StartFault::NoEnd => Place::Start,
-        }
+    fn place(self) -> Place {
+        Place::Start
     }
 }

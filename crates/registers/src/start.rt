@@ -3,11 +3,12 @@ ghost use Rattle.std.specs.Prelude.{◌≡◌, Bool};
 ghost use Rattle.registers.specs.Start.{input_checked, input_ends, input_started, output_checked, output_ends, output_started, some_ends, stopped};
 ghost use Rattle.table.specs.Calls.{granted};
 
-use crate::faults::{StartFault, below};
-use crate::setting::{Channel, InputStep, OutputStep};
+use crate::faults::StartFault;
+use crate::setting::{InputStep, OutputStep, StepAt};
 use crate::state::{Buffers, InputPlace, OutputPlace, Registers, Sequence};
 
-// A step of a port, which may be the last of its sequence.
+// A step of a port, which may be the last of its sequence. A trait and no closure: `some_ends` then
+// says in its promise which flag it looks for.
 trait Step {
     ghost ends: { Self → Bool };
 
@@ -35,22 +36,17 @@ impl Step for OutputStep {
 fn some_ends<S: Step>(steps: &[S], from: u32) -> bool
     ensures answer { result ≡ some_ends S.Step.ends steps.now from }
 {
-    for i in from as usize..steps.len() {
-        if steps[i].ends() {
-            return true;
-        }
-    }
-    false
+    steps.iter().skip(from as usize).any(|step| step.ends())
 }
 
+// Channel and step come as numbers, whatever they are: a wrong one is refused, the first of them.
 impl Registers {
     // Opens the input port's sequence, also if it is open, with empty buffers.
     pub fn start_input(&mut self, channel: u32, step: u32) -> Result<(), StartFault>
         ensures answer { result ≡ input_checked channel step self.old }
         ensures registers { self.new ≡ granted result (input_started channel step self.old) self.old }
     {
-        let channel = Channel::numbered(channel)?;
-        below(step, 8)?;
+        let StepAt { channel, step } = StepAt::new(channel, step)?;
         let steps = self.setup.of(channel).inputs;
         if !steps[step as usize].head {
             return Err(StartFault::NoHead);
@@ -60,10 +56,7 @@ impl Registers {
         }
         self.input.channel = channel;
         self.input.hits = [false; 8];
-        self.input.buffers = Buffers {
-            accumulation: 0,
-            sub: 0,
-        };
+        self.input.buffers = Buffers::default();
         self.input.sequence = Sequence::Open(InputPlace { step, block: 0 });
         Ok(())
     }
@@ -73,8 +66,7 @@ impl Registers {
         ensures answer { result ≡ output_checked channel step self.old }
         ensures registers { self.new ≡ granted result (output_started channel step self.old) self.old }
     {
-        let channel = Channel::numbered(channel)?;
-        below(step, 8)?;
+        let StepAt { channel, step } = StepAt::new(channel, step)?;
         let steps = self.setup.of(channel).outputs;
         if !some_ends(&steps, step) {
             return Err(StartFault::NoEnd);

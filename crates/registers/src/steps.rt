@@ -1,23 +1,15 @@
 // The set-up calls: each changes one step, one channel's blocks, or the width of a block.
-ghost use Rattle.std.specs.Prelude.{◌≡◌, ltb, if◌then◌else◌, Ok, Err};
-ghost use Rattle.registers.specs.Setting.{blocks_checked, blocks_set, channel_of, input_step_checked, input_step_set, is_open, item_within, numbered, output_step_checked, output_step_set, width_checked, width_set};
+ghost use Rattle.std.specs.Prelude.{◌≡◌, Ok};
+ghost use Rattle.std.specs.Borrow.{sem};
+ghost use Rattle.registers.specs.Lending.{LendsChannel};
+ghost use Rattle.registers.specs.Setting.{blocks_checked, blocks_set, channel_of, closed, input_step_checked, input_step_set, item_within, output_step_checked, output_step_set, width_checked, width_set};
 ghost use Rattle.table.specs.Calls.{granted};
 
 use crate::faults::{OutOfRange, SetUpFault, below};
-use crate::setting::{BlockWidth, Channel, ChannelSetUp, InputStep, Item, OutputStep, SetUp};
+use crate::setting::{
+    BlockWidth, Channel, ChannelSetUp, InputStep, Item, OutputStep, SetUp, StepAt,
+};
 use crate::state::{Registers, Sequence};
-
-impl Channel {
-    pub(crate) fn numbered(number: u32) -> Result<Channel, OutOfRange>
-        ensures answer { result ≡ (if ltb number 2 then Ok (numbered number) else Err (record { 0 = number })) }
-    {
-        match number {
-            0 => Ok(Channel::A),
-            1 => Ok(Channel::B),
-            _ => Err(OutOfRange(number)),
-        }
-    }
-}
 
 impl SetUp {
     pub fn of(&self, channel: Channel) -> ChannelSetUp
@@ -28,20 +20,31 @@ impl SetUp {
             Channel::B => self.b,
         }
     }
-}
 
-impl<P: Copy> Sequence<P> {
-    fn is_open(self) -> bool
-        ensures answer { result ≡ is_open self }
+    fn of_mut(&mut self, channel: Channel) -> &mut ChannelSetUp
+        ensures* writes_back { sem 𝓛 (LendsChannel channel self.entry result) }
+        ensures value { result.now ≡ channel_of self.old channel }
     {
-        match self {
-            Sequence::NotStarted => false,
-            Sequence::Open(_) => true,
-            Sequence::Ended => false,
+        match channel {
+            Channel::A => &mut self.a,
+            Channel::B => &mut self.b,
         }
     }
 }
 
+impl<P> Sequence<P> {
+    // What is set up for a port cannot change while its sequence is open.
+    fn closed(&self) -> Result<(), SetUpFault>
+        ensures answer { result ≡ closed self.now }
+    {
+        if matches!(self, Sequence::Open(_)) {
+            return Err(SetUpFault::SequenceOpen);
+        }
+        Ok(())
+    }
+}
+
+// Channel, step and width come as numbers, whatever they are: a wrong one is refused, the first of them.
 impl Registers {
     pub fn set_input_step(
         &mut self,
@@ -52,17 +55,11 @@ impl Registers {
         ensures answer { result ≡ input_step_checked channel step to self.old }
         ensures registers { self.new ≡ granted result (input_step_set channel step to self.old) self.old }
     {
-        let channel = Channel::numbered(channel)?;
-        below(step, 8)?;
+        let at = StepAt::new(channel, step)?;
         below(to.shift, 4)?;
         below(to.segment, 8)?;
-        if self.input.sequence.is_open() {
-            return Err(SetUpFault::SequenceOpen);
-        }
-        match channel {
-            Channel::A => self.setup.a.inputs[step as usize] = to,
-            Channel::B => self.setup.b.inputs[step as usize] = to,
-        }
+        self.input.sequence.closed()?;
+        self.setup.of_mut(at.channel).inputs[at.step as usize] = to;
         Ok(())
     }
 
@@ -71,20 +68,11 @@ impl Registers {
         ensures answer { result ≡ blocks_checked channel self.old }
         ensures registers { self.new ≡ granted result (blocks_set channel take start self.old) self.old }
     {
-        let channel = Channel::numbered(channel)?;
-        if self.input.sequence.is_open() {
-            return Err(SetUpFault::SequenceOpen);
-        }
-        match channel {
-            Channel::A => {
-                self.setup.a.take = take;
-                self.setup.a.start = start;
-            }
-            Channel::B => {
-                self.setup.b.take = take;
-                self.setup.b.start = start;
-            }
-        }
+        let channel = Channel::try_from(channel)?;
+        self.input.sequence.closed()?;
+        let setup = self.setup.of_mut(channel);
+        setup.take = take;
+        setup.start = start;
         Ok(())
     }
 
@@ -93,15 +81,8 @@ impl Registers {
         ensures answer { result ≡ width_checked bits self.old }
         ensures registers { self.new ≡ granted result (width_set bits self.old) self.old }
     {
-        let width = match bits {
-            8 => BlockWidth::Eight,
-            16 => BlockWidth::Sixteen,
-            32 => BlockWidth::ThirtyTwo,
-            _ => return Err(SetUpFault::OutOfRange(bits)),
-        };
-        if self.input.sequence.is_open() {
-            return Err(SetUpFault::SequenceOpen);
-        }
+        let width = BlockWidth::try_from(bits)?;
+        self.input.sequence.closed()?;
         self.setup.width = width;
         Ok(())
     }
@@ -115,16 +96,10 @@ impl Registers {
         ensures answer { result ≡ output_step_checked channel step to self.old }
         ensures registers { self.new ≡ granted result (output_step_set channel step to self.old) self.old }
     {
-        let channel = Channel::numbered(channel)?;
-        below(step, 8)?;
+        let at = StepAt::new(channel, step)?;
         to.item.check()?;
-        if self.output.is_open() {
-            return Err(SetUpFault::SequenceOpen);
-        }
-        match channel {
-            Channel::A => self.setup.a.outputs[step as usize] = to,
-            Channel::B => self.setup.b.outputs[step as usize] = to,
-        }
+        self.output.closed()?;
+        self.setup.of_mut(at.channel).outputs[at.step as usize] = to;
         Ok(())
     }
 }
@@ -135,10 +110,8 @@ impl Item {
         ensures answer { result ≡ item_within (λ n. record { 0 = n }) self (Ok tt) }
     {
         match self {
-            Item::Key(i) => below(i, 8),
-            Item::Segment(s) => below(s, 8),
-            Item::Status => Ok(()),
-            Item::Address => Ok(()),
+            Item::Key(number) | Item::Segment(number) => below(number, 8),
+            Item::Status | Item::Address => Ok(()),
         }
     }
 }

@@ -4,8 +4,7 @@ use Rattle.device.specs.Opening.{checked, depth_at}
 use Rattle.device.specs.declared.opening.OpenFault.TheVariants.{Width, Memory}
 use Rattle.fence.specs.Shown.{shown}
 use Rattle.flags.specs.Cuts.{flags_so_far}
-use Rattle.flags.specs.Kinds.{full_from, hits_from}
-use Rattle.flags.specs.declared.full.FullFlag.TheVariants.{EmptyAt}
+use Rattle.flags.specs.Kinds.{empty_at, full_from, hits_from}
 use Rattle.flags.specs.declared.hit.HitFlag.TheVariants.{Several}
 use Rattle.join.specs.Joined.{join_rows}
 use Rattle.life.specs.Meaning.{replies}
@@ -55,8 +54,8 @@ pub record Sums : Type 0 where
   pub keys : FourKeys
   pub hits : hits_in (after_five rows_t) ≡ true ∷ false ∷ true ∷ []
   pub steps : hits_in (map (searched then_nine) (after_five rows_t)) ≡ false ∷ false ∷ true ∷ []
-  pub walked : replies record { width = 2; rows = rows_t; registers = fresh } walk ≡ Address (Some 0) ∷ Address (Some 2) ∷ Address (Some 2) ∷ Address None ∷ []
+  pub walked : replies record { width = 2; rows = rows_t; registers = fresh } walk ≡ Ok (Address (Some 0)) ∷ Ok (Address (Some 2)) ∷ Ok (Address (Some 2)) ∷ Ok (Address None) ∷ []
   pub joined : (length rows_tu ≡ 5) × (hits_in (after_five rows_tu) ≡ true ∷ false ∷ true ∷ true ∷ false ∷ [])
   pub refused : (on_cell {X = ℕ} 1 rows_tu 5 0 0 ≡ Err (NoRow 5)) × (on_cell {X = ℕ} 1 rows_tu 4 1 0 ≡ Err (NoSegment 1))
   pub fenced : (length (shown 2 rows_tu) ≡ 3) × (hits_in (after_five (shown 2 rows_tu)) ≡ true ∷ true ∷ false ∷ [])
-  pub flagged : (flags_so_far hits_from (after_five rows_tu) (0 ∷ 3 ∷ []) ≡ Several 0 ∷ Several 0 ∷ []) × (flags_so_far full_from (after_five rows_tu) (0 ∷ 3 ∷ []) ≡ EmptyAt 1 ∷ EmptyAt 1 ∷ [])
+  pub flagged : (flags_so_far hits_from (after_five rows_tu) (0 ∷ 3 ∷ []) ≡ Several 0 ∷ Several 0 ∷ []) × (flags_so_far full_from (after_five rows_tu) (0 ∷ 3 ∷ []) ≡ empty_at 1 ∷ empty_at 1 ∷ [])

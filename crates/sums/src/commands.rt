@@ -1,9 +1,11 @@
 // Searches, walks and commands at addresses, over a bit-plane table.
 use planes::Planes;
 use processor::{CommandFault, Processor};
+use registers::Found;
 use std::test::Fail;
-use table::{Marking, Place, Search, Table, TableFault};
+use table::{Marking, Marks, Place, Refusal, Search, Table, TableFault};
 
+// Each test crate makes its own searches, with the flags that it varies.
 const fn search(key: u32, segment: u32, head: bool) -> Search {
     Search {
         key,
@@ -37,8 +39,8 @@ pub(crate) fn filled() -> Result<Processor<Planes>, CommandFault> {
 fn two_steps_and_a_walk(rt: HostRuntime) -> Result<(), Fail> {
     let mut processor = filled()?;
     assert_eq!(rt; processor.search(search(5, 0, true)), Ok(Some(0)));
-    assert!(rt; processor.registers().found.hit);
-    assert!(rt; processor.registers().found.several);
+    let found = processor.registers().found;
+    assert!(rt; found.hit && found.several);
     assert_eq!(rt; processor.next_hit(), Some(2));
     assert_eq!(rt; processor.next_hit(), None);
     assert_eq!(rt; processor.next_hit(), None);
@@ -57,9 +59,12 @@ fn a_refused_search_changes_nothing(rt: HostRuntime) -> Result<(), Fail> {
     assert_eq!(rt; processor.search(search(9, 2, true)), Err(refused));
     assert_eq!(rt; refused.number(), 4);
     assert_eq!(rt; refused.place(), Place::Table);
-    assert_eq!(rt; processor.registers().found.address, Some(0));
-    assert!(rt; processor.registers().found.hit);
-    assert!(rt; processor.registers().found.several);
+    let found = Found {
+        address: Some(0),
+        hit: true,
+        several: true,
+    };
+    assert_eq!(rt; processor.registers().found, found);
     assert_eq!(rt; processor.next_hit(), Some(2));
     Ok(())
 }
@@ -98,8 +103,12 @@ fn an_append_leaves_the_access_mark(rt: HostRuntime) -> Result<(), Fail> {
     assert_eq!(rt; processor.find_empty(), Some(1));
     assert_eq!(rt; processor.write_at_empty(1, 9), Ok(()));
     assert_eq!(rt; processor.append(), Ok(()));
-    let marks = processor.marks(1)?;
-    assert!(rt; !marks.empty && marks.access && !marks.hit);
+    let marks = Marks {
+        empty: false,
+        access: true,
+        hit: false,
+    };
+    assert_eq!(rt; processor.marks(1), Ok(marks));
     assert_eq!(rt; processor.registers().empty, Some(1));
     assert_eq!(rt; processor.next_empty(), Some(3));
     processor.search(search(9, 1, true))?;

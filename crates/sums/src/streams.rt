@@ -4,7 +4,7 @@ use ports::{AtStep, BlockAnswer, PortFault, block, word};
 use processor::CommandFault;
 use registers::{InputStep, Item, OutputStep, SetUpFault, StartFault};
 use std::test::Fail;
-use table::{Place, TableFault};
+use table::{Place, Refusal, TableFault};
 
 const fn step(segment: u32, head: bool, end: bool) -> InputStep {
     InputStep {
