@@ -1,8 +1,8 @@
 -- The hit flag of rows, from the first hits that a table names. Assumes nothing.
-use Rattle.std.proofs.Common.{◌≡◌, ℕ, suc, ◌+◌, ◌<◌, ◌≤◌, true, false, List, ◌∷◌, Some, None, refl, ap, ◌∙◌, add-one}
-use Rattle.flags.proofs.Found.{flag_before, flag_found, flag_none, found_passes}
+use Rattle.std.proofs.Common.{◌≡◌, ℕ, suc, ◌+◌, ◌<◌, true, false, List, ◌∷◌, Some, None, Option, refl, ap, ◌∙◌, add-one, arith}
+use Rattle.flags.proofs.Found.{flag_found, found_passes, lasting_before}
 use Rattle.flags.specs.Kinds.{hit_then, hits_from}
-use Rattle.flags.specs.Laws.{between}
+use Rattle.flags.specs.Laws.{Lasting, Reaches, between}
 use Rattle.flags.specs.Proved.{hits_laws}
 use Rattle.flags.specs.declared.hit.HitFlag.{HitFlag}
 use Rattle.flags.specs.declared.hit.HitFlag.TheVariants.{None as NoHit, One, Several}
@@ -22,25 +22,26 @@ two_hits a b NoHit = refl
 two_hits a b (One c) = refl
 two_hits a b (Several c) = refl
 
+hits_first : (rs : List Row) (a b row : ℕ) → Some row ≡ first is_hit rs a → row < b
+    → hits_from (between a b rs) a ≡ hit_then row (hits_from (between (row + 1) b rs) (row + 1))
+hits_first rs a b row e lt =
+    flag_found hits_laws is_hit hits_skip rs a b row e lt
+    ∙ hits_here (row_at rs row) (between (row + 1) b rs) row (found_passes hits_laws is_hit hits_skip rs a row e)
+
 module _ (rs : List Row) (a b : ℕ) where
-  pub hits_none : None ≡ first is_hit rs a → hits_from (between a b rs) a ≡ NoHit
-  hits_none e = flag_none hits_laws is_hit hits_skip rs a b e
+  pub no_hit : (r : Option ℕ) → r ≡ first is_hit rs a → Reaches r b → Lasting hits_from rs a b (record { flag = NoHit; until = r })
+  no_hit = lasting_before hits_laws is_hit hits_skip rs a b
 
-  pub hits_before : (row : ℕ) → Some row ≡ first is_hit rs a → b ≤ row → hits_from (between a b rs) a ≡ NoHit
-  hits_before row e end = flag_before hits_laws is_hit hits_skip rs a b row e end
+  module _ (row : ℕ) (found : Some row ≡ first is_hit rs a) (within : row < b) where
+    pub one_hit : (r : Option ℕ) → r ≡ first is_hit rs (row + 1) → Reaches r b → Lasting hits_from rs a b (record { flag = One row; until = r })
+    one_hit r e end =
+        let later = lasting_before hits_laws is_hit hits_skip rs (row + 1) b r e end in
+        record { reached = end; same = λ k above below. hits_first rs a k row found (omega arith) ∙ ap (hit_then row) (later.same k above below) }
 
-  hits-first : (row : ℕ) → Some row ≡ first is_hit rs a → row < b → hits_from (between a b rs) a ≡ hit_then row (hits_from (between (row + 1) b rs) (row + 1))
-  hits-first row e lt =
-      flag_found hits_laws is_hit hits_skip rs a b row e lt
-      ∙ hits_here (row_at rs row) (between (row + 1) b rs) row (found_passes hits_laws is_hit hits_skip rs a row e)
-
-module _ (rs : List Row) (a b row : ℕ) (found : Some row ≡ first is_hit rs a) (within : row < b) where
-  pub hits_one : None ≡ first is_hit rs (row + 1) → hits_from (between a b rs) a ≡ One row
-  hits_one e = hits-first rs a b row found within ∙ ap (hit_then row) (hits_none rs (row + 1) b e)
-
-  pub hits_one_before : (next : ℕ) → Some next ≡ first is_hit rs (row + 1) → b ≤ next → hits_from (between a b rs) a ≡ One row
-  hits_one_before next e end = hits-first rs a b row found within ∙ ap (hit_then row) (hits_before rs (row + 1) b next e end)
-
-  pub hits_several : (next : ℕ) → Some next ≡ first is_hit rs (row + 1) → next < b → hits_from (between a b rs) a ≡ Several row
-  hits_several next e lt =
-      hits-first rs a b row found within ∙ ap (hit_then row) (hits-first rs (row + 1) b next e lt) ∙ two_hits row next (hits_from (between (next + 1) b rs) (next + 1))
+    pub several_hits : (next : ℕ) → Some next ≡ first is_hit rs (row + 1) → next < b → Lasting hits_from rs a b (record { flag = Several row; until = None })
+    several_hits next e lt = record {
+      reached = tt;
+      same = λ k above below.
+          hits_first rs a k row found (omega arith) ∙ ap (hit_then row) (hits_first rs (row + 1) k next e (omega arith))
+          ∙ two_hits row next (hits_from (between (next + 1) k rs) (next + 1));
+    }

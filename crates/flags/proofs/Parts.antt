@@ -1,6 +1,7 @@
 -- The flag of rows is joined from those of its parts: the one use of a kind's laws. Assumes nothing.
 use Rattle.std.proofs.Common.{◌≡◌, ℕ, suc, ◌+◌, ◌-◌, ◌<◌, ◌≤◌, List, ◌∷◌, ◌++◌, length, take, drop, ap, ◌∙◌, arith, take-add}
-use Rattle.flags.specs.Laws.{Laws, between}
+use Rattle.flags.specs.Laws.{Lasting, Laws, between}
+use Rattle.flags.specs.declared.kinds.Part.{Part}
 use Rattle.std.proofs.lemmas.List.{drop-drop, drop_more, length-drop, length-take}
 use Rattle.table.specs.Calls.{row_at}
 use Rattle.table.specs.Row.{Row, blank}
@@ -26,3 +27,7 @@ pub flag_next : {K : Type 0} {flag : List Row → ℕ → K} {join : K → K →
 flag_next {flag = flag} {join = join} laws rs a m b am mb fits =
     ap (λ xs. flag xs a) (between_split rs a m b am mb) ∙ laws.split (between a m rs) (between m b rs) a
     ∙ ap (λ n. join (flag (between a m rs) a) (flag (between m b rs) n)) (length-between rs a m am fits)
+
+-- what a part tells is the flag of its rows
+pub told : {K : Type 0} {flag : List Row → ℕ → K} {rs : List Row} {a b : ℕ} {part : Part K} → Lasting flag rs a b part → flag (between a b rs) a ≡ part.flag
+told {b = b} l = l.same b (omega arith) l.reached

@@ -1,11 +1,12 @@
 -- The flags of all rows, from the first rows that a table would name. Assumes nothing.
 use Rattle.std.proofs.Common.{◌≡◌, ℕ, ◌+◌, ◌<◌, Bool, List, length, Some, None, Option, sym, refl, ap, ◌∙◌, subst, arith}
 use native.Mathlib.Nat.{sub-zero}
-use Rattle.flags.proofs.Empties.{full_empty, full_none}
-use Rattle.flags.proofs.Hits.{hits_none, hits_one, hits_several}
+use Rattle.flags.proofs.Empties.{no_empty, one_empty}
+use Rattle.flags.proofs.Parts.{told}
+use Rattle.flags.proofs.Hits.{no_hit, one_hit, several_hits}
 use Rattle.flags.specs.Kinds.{full_from, hits_from}
 use Rattle.flags.specs.Laws.{between}
-use Rattle.flags.specs.Readings.{FullRead, HitsRead, empty_is, hit_and, hits_are}
+use Rattle.flags.specs.Readings.{FullRead, HitsRead, hit_and, hits_are}
 use Rattle.std.proofs.lemmas.List.{take_all}
 use Rattle.table.proofs.First.{first_least}
 use Rattle.table.specs.Calls.{first}
@@ -20,16 +21,16 @@ module _ (rs : List Row) where
   within p n a e = (subst (λ (r : Option ℕ). Least p rs n r) (sym e) (first_least p rs n)).1
 
   next_read : (a : ℕ) → Some a ≡ first is_hit rs 0 → (r : Option ℕ) → r ≡ first is_hit rs (a + 1) → hits_from (between 0 (length rs) rs) 0 ≡ hit_and a r
-  next_read a e None f = hits_one rs 0 (length rs) a e (within is_hit 0 a e) f
-  next_read a e (Some b) f = hits_several rs 0 (length rs) a e (within is_hit 0 a e) b f (within is_hit (a + 1) b f)
+  next_read a e None f = told (one_hit rs 0 (length rs) a e (within is_hit 0 a e) None f tt)
+  next_read a e (Some b) f = told (several_hits rs 0 (length rs) a e (within is_hit 0 a e) b f (within is_hit (a + 1) b f))
 
   hit_read : (r : Option ℕ) → r ≡ first is_hit rs 0 → hits_from (between 0 (length rs) rs) 0 ≡ hits_are rs r
-  hit_read None e = hits_none rs 0 (length rs) e
+  hit_read None e = told (no_hit rs 0 (length rs) None e tt)
   hit_read (Some a) e = next_read a e (first is_hit rs (a + 1)) refl
 
-  empty_read : (r : Option ℕ) → r ≡ first is_empty rs 0 → full_from (between 0 (length rs) rs) 0 ≡ empty_is r
-  empty_read None e = full_none rs 0 (length rs) e
-  empty_read (Some a) e = full_empty rs 0 (length rs) a e (within is_empty 0 a e)
+  empty_read : (r : Option ℕ) → r ≡ first is_empty rs 0 → full_from (between 0 (length rs) rs) 0 ≡ record { first_empty = r }
+  empty_read None e = told (no_empty rs 0 (length rs) None e tt)
+  empty_read (Some a) e = told (one_empty rs 0 (length rs) a e (within is_empty 0 a e))
 
 pub hits_read : HitsRead
 hits_read rs = ap (λ xs. hits_from xs 0) (sym (all_rows rs)) ∙ hit_read rs (first is_hit rs 0) refl

@@ -3,9 +3,8 @@ use Rattle.std.specs.Prelude.{◌≡◌, ℕ, Bool, true, false, List, [], ◌�
 use Rattle.flags.specs.Cuts.{checked_cut, flags_so_far}
 use Rattle.flags.specs.declared.faults.FlagsFault.{FlagsFault}
 use Rattle.flags.specs.declared.faults.FlagsFault.TheVariants.{Length, Starts, Start}
-use Rattle.flags.specs.declared.full.FullFlag.TheVariants.{Full, EmptyAt}
 use Rattle.flags.specs.declared.hit.HitFlag.TheVariants.{None, One, Several}
-use Rattle.flags.specs.Kinds.{full_from, hits_from}
+use Rattle.flags.specs.Kinds.{empty_at, full, full_from, hits_from}
 use Rattle.table.specs.Row.{Row, searched}
 use Rattle.table.specs.declared.parts.Search.{Search}
 
@@ -23,14 +22,14 @@ abbrev pub HitsOfFive : Type 0
 HitsOfFive = flags_so_far hits_from five_rows (0 ∷ 3 ∷ []) ≡ Several 0 ∷ Several 0 ∷ []
 
 abbrev pub FullOfFive : Type 0
-FullOfFive = flags_so_far full_from five_rows (0 ∷ 3 ∷ []) ≡ EmptyAt 1 ∷ EmptyAt 1 ∷ []
+FullOfFive = flags_so_far full_from five_rows (0 ∷ 3 ∷ []) ≡ empty_at 1 ∷ empty_at 1 ∷ []
 
 -- members of one row, of none, and of the rest
 abbrev pub HitsByTurns : Type 0
 HitsByTurns = flags_so_far hits_from five_rows (0 ∷ 0 ∷ 1 ∷ 2 ∷ 3 ∷ []) ≡ None ∷ One 0 ∷ One 0 ∷ Several 0 ∷ Several 0 ∷ []
 
 abbrev pub FullByTurns : Type 0
-FullByTurns = flags_so_far full_from five_rows (0 ∷ 1 ∷ 1 ∷ []) ≡ Full ∷ Full ∷ EmptyAt 1 ∷ []
+FullByTurns = flags_so_far full_from five_rows (0 ∷ 1 ∷ 1 ∷ []) ≡ full ∷ full ∷ empty_at 1 ∷ []
 
 abbrev Answered : ℕ → List ℕ → Result Unit FlagsFault → Type 0
 Answered n cut r = checked_cut n cut 5 ≡ r

@@ -2,7 +2,7 @@
 ghost use Rattle.std.specs.Prelude.{◌≡◌};
 ghost use Rattle.flags.specs.Faults.{number_of, place_of};
 
-use table::Place;
+use table::{Place, Refusal};
 
 // Why no flags are worked out: the lengths of the output and of the cut, which differ; how many
 // starts the cut has, if none or too many; or which member's start breaks the rule first.
@@ -13,24 +13,19 @@ pub enum FlagsFault {
     Start(usize),
 }
 
-impl FlagsFault {
-    pub fn number(self) -> u32
-        ensures answer { result ≡ number_of self }
-    {
+impl Refusal for FlagsFault {
+    ghost numbered = { number_of };
+
+    ghost found_at = { place_of };
+
+    fn number(self) -> u32 {
         match self {
             FlagsFault::Length(..) => 15,
-            FlagsFault::Starts(_) => 16,
-            FlagsFault::Start(_) => 16,
+            FlagsFault::Starts(_) | FlagsFault::Start(_) => 16,
         }
     }
 
-    pub fn place(self) -> Place
-        ensures answer { result ≡ place_of self }
-    {
-        match self {
-            FlagsFault::Length(..) => Place::Flags,
-            FlagsFault::Starts(_) => Place::Flags,
-            FlagsFault::Start(_) => Place::Flags,
-        }
+    fn place(self) -> Place {
+        Place::Flags
     }
 }

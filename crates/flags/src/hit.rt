@@ -6,7 +6,8 @@ ghost use Rattle.flags.specs.declared.hit.HitFlag.TheVariants.{None as NoHit};
 use crate::kinds::{FlagKind, Part};
 use table::Table;
 
-// No row hit, one did, or several did, of which the first is named.
+// No row hit, one did, or several did, of which the first is named: three cases, as the rules list them,
+// and no optional row with a flag beside it.
 #[derive(Clone, Copy, PartialEq, Eq, Debug)]
 pub enum HitFlag {
     None,
@@ -37,33 +38,22 @@ impl FlagKind for HitFlag {
     }
 
     fn of<T: Table>(table: &T, from: u32, to: u32) -> Part<HitFlag> {
-        let Some(row) = table.first_hit(from) else {
-            return Part {
+        let row = match table.first_hit(from) {
+            Some(row) if row < to => row,
+            later => return Part {
                 flag: HitFlag::None,
-                until: u32::MAX,
-            };
+                until: later,
+            },
         };
-        if row >= to {
-            return Part {
-                flag: HitFlag::None,
-                until: row,
-            };
-        }
-        let Some(next) = table.first_hit(row + 1) else {
-            return Part {
+        match table.first_hit(row + 1) {
+            Some(next) if next < to => Part {
+                flag: HitFlag::Several(row),
+                until: None,
+            },
+            later => Part {
                 flag: HitFlag::One(row),
-                until: u32::MAX,
-            };
-        };
-        if next >= to {
-            return Part {
-                flag: HitFlag::One(row),
-                until: next,
-            };
-        }
-        Part {
-            flag: HitFlag::Several(row),
-            until: u32::MAX,
+                until: later,
+            },
         }
     }
 }

@@ -5,11 +5,12 @@ ghost use Rattle.table.specs.Row.{Row};
 
 use table::Table;
 
-// The flag of some rows, and a row up to which more rows behind them leave it as it is.
+// The flag of some rows, and the row up to which more rows behind them leave it as it is; none, if
+// they always do.
 #[derive(Clone, Copy, PartialEq, Eq, Debug)]
 pub struct Part<K> {
     pub flag: K,
-    pub until: u32,
+    pub until: Option<u32>,
 }
 
 pub trait FlagKind: Sized {
@@ -33,6 +34,7 @@ pub trait FlagKind: Sized {
 
     // The flag of the rows from `from` up to `to`. A table's question for a first row looks past
     // `to`; `until` says what it saw there, so that no row need be asked about again.
+    // Two numbers and no range, which would be taken apart at once: one is asked, the other compared.
     fn of<T: Table>(table: &T, from: u32, to: u32) -> Part<Self>
         ensures flag { result.flag ≡ flag_of (between from to (T.Table.rows table.now)) from }
         ensures until { Lasting flag_of (T.Table.rows table.now) from to result };

@@ -1,43 +1,34 @@
-use Rattle.std.proofs.Common.{◌≡◌, ◌≤◌, length, get_or, arith}
+use Rattle.std.proofs.Common.{◌≡◌, ℕ, ◌+◌, ◌<◌, ◌≤◌, length, get_or, set, sym, subst, arith}
 use Rattle.flags.specs.Cuts.{end_of, flag_up_to, flags_so_far}
 use Rattle.flags.specs.Laws.{Lasting}
-use Rattle.flags.proofs.HandedOn.{handed_none, handed_on, handed_over, handed_told, part_of, written_all, written_more, written_none}
+use Rattle.flags.proofs.HandedOn.{handed_none, handed_told}
+use Rattle.std.proofs.lemmas.List.Edits.{fill_by_more}
+use Rattle.std.proofs.lemmas.List.FromFn.{fill_by_all}
 use Rattle.flags.proofs.call.hand_on.Goals as goal
-use Rattle.flags.proofs.call.hand_on.Goals.{then-until-end, else-until-end}
 
 pub loop-member-init : goal.loop-member-init
 loop-member-init g c =
-    let k = g.K.FlagKind in
-    let rs = g.T.Table.rows c.args.table.now in (
-      rw (c.nothing-flag.ensures.answer, c.requires.cut.first) (handed_none k.laws rs),
-      written_none (flag_up_to k.flag_of rs c.args.cut.now) c.args.out.now,
-    )
+    (rw (c.nothing.ensures.answer, c.args.members.now.cut.first) (handed_none g.K.FlagKind.laws (g.T.Table.rows c.args.table.now)), λ k lt. absurd (omega arith))
 
 pub loop-member-preserved : goal.loop-member-preserved
 loop-member-preserved g c =
     let k = g.K.FlagKind in
     let rs = g.T.Table.rows c.args.table.now in
-    let cut = c.args.cut.now in
+    let members = c.args.members.now in
+    let cut = members.starts.now in
     let member = c.loop-member.member in
-    let end = c.end_of-end.result in
-    let start = get_or cut member c.args.depth in
-    let is-end : end ≡ end_of cut c.args.depth member = c.end_of-end.ensures.answer in
-    let rising : start ≤ end = rw is-end (c.requires.cut.rising member c.loop-member-test.true) in
-    let within : end ≤ length rs = rw (is-end, ← c.requires.depth) (c.requires.cut.within member c.loop-member-test.true) in
-    let known = c.loop-member.invariant.0 in
-    let next : Lasting k.flag_of rs 0 end (part_of c.if-until-end.flag c.if-until-end.until) =
-    elim c.if-until-end.branch [
-      | then-until-end w ↦ handed_on k.laws rs start end _ _ _ _ known w.joined_on-next.result w.if-until-end.true within
-          w.joined_on-next.ensures.answer w.flag-is w.until-is
-      | else-until-end w ↦ handed_over k.laws rs start end _ _ _ _ known rising w.if-until-end.false w.flag-is w.until-is
-    ] in
-    let told = handed_told k.laws rs cut c.args.depth member end _ _ is-end c.requires.depth next in (
-      rw (← is-end) next,
-      written_more (flag_up_to k.flag_of rs cut) c.args.out.now _ member _ c.loop-member.invariant.1 (omega arith) told,
-    )
+    let lt : member < length cut = omega (arith, c.requires.out) in
+    let is-end : c.end_of.result ≡ end_of cut members.depth member = c.end_of.ensures.answer in
+    let rising : get_or cut member members.depth ≤ c.end_of.result = rw is-end (members.cut.rising member lt) in
+    let within : c.end_of.result ≤ length rs = rw (is-end, ← c.requires.depth) (members.cut.within member lt) in
+    let next : Lasting k.flag_of rs 0 (end_of cut members.depth member) c.carried-so_far.result =
+    rw (← is-end) (c.carried-so_far.ensures.answer _ c.loop-member.invariant.0 rising within) in
+    let told = handed_told k.laws rs cut member c.carried-so_far.result (rw (← c.requires.depth) next) in
+    let so_far = fill_by_more (flag_up_to k.flag_of rs cut) c.loop-member.out member k.none (omega arith) c.loop-member.invariant.1 in
+    (next, subst (λ x. (j : ℕ) → j < member + 1 → get_or (set c.loop-member.out member x) j k.none ≡ flag_up_to k.flag_of rs cut j) (sym told) so_far)
 
 pub returns : goal.returns
 unfolding flags_so_far
 returns g c =
-    let f = flag_up_to g.K.FlagKind.flag_of (g.T.Table.rows c.args.table.now) c.args.cut.now in
-    record { out = written_all f c.args.out.now _ c.loop-member.member _ c.loop-member.invariant.1 (omega arith) (omega arith) }
+    let told = c.loop-member.invariant.1 in
+    record { out = fill_by_all _ c.loop-member.out _ g.K.FlagKind.none (omega (arith, c.requires.out)) (λ k lt. told k (omega (arith, c.requires.out))) }

@@ -1,24 +1,22 @@
-use Rattle.std.proofs.Common.{◌≡◌, false, length, ap, arith, rules, below_more}
+use Rattle.std.proofs.Common.{◌≡◌, true, false, length, ap, arith, rules}
+use Rattle.std.proofs.lemmas.Iterator.{first_from_Range}
 use Rattle.flags.proofs.Checks.{break_at, break_none, cut_passed}
 use Rattle.flags.specs.Cuts.{obeys, refused_at}
 use Rattle.flags.proofs.cuts.check_starts.Goals as goal
 
-pub returns-then-not-keeps_rule : goal.returns-then-not-keeps_rule
-returns-then-not-keeps_rule c =
-    let cut = c.args.cut.now in
-    let broken : obeys cut c.args.depth c.loop-member.member ≡ false = search rules in
-    record {
-      answer = ap refused_at (break_at (obeys cut c.args.depth) 0 (length cut) c.loop-member.member (omega arith) (omega arith) (λ k from lt. c.loop-member.invariant k lt) broken);
-      cut = tt;
-    }
+pub returns-in-Some : goal.returns-in-Some
+returns-in-Some c =
+    let ok = obeys c.args.cut.now c.args.depth in
+    let told = first_from_Range _ _ _ c.find.result (λ k. ok k ≡ false) (λ k. ok k ≡ true) c.find.ensures.ran (λ x q k. search rules) (λ x q k. search rules) in
+    let found = rw c.in-Some.is at told in
+    record { answer = ap refused_at (break_at ok 0 (length c.args.cut.now) c.in-Some.member (omega arith) (omega (arith, found.1)) found.3 found.2); cut = tt }
 
-pub loop-member-preserved : goal.loop-member-preserved
-loop-member-preserved c = below_more _ _ c.loop-member.invariant (search rules)
-
-pub returns : goal.returns
-returns c =
-    let cut = c.args.cut.now in
+pub returns-in-None : goal.returns-in-None
+returns-in-None c =
+    let ok = obeys c.args.cut.now c.args.depth in
+    let told = first_from_Range _ _ _ c.find.result (λ k. ok k ≡ false) (λ k. ok k ≡ true) c.find.ensures.ran (λ x q k. search rules) (λ x q k. search rules) in
+    let kept = rw c.in-None.is at told in
     record {
-      answer = ap refused_at (break_none (obeys cut c.args.depth) 0 (length cut) (λ k from lt. c.loop-member.invariant k (omega arith)));
-      cut = cut_passed cut c.args.depth (λ k lt. c.loop-member.invariant k (omega arith));
+      answer = ap refused_at (break_none ok 0 (length c.args.cut.now) (λ k from lt. kept k from (omega arith)));
+      cut = cut_passed c.args.cut.now c.args.depth (λ k lt. kept k (omega arith) lt);
     }

@@ -1,18 +1,19 @@
-use Rattle.std.proofs.Common.{ℕ, sym, arith, rules}
-use Rattle.flags.proofs.Empties.{full_before, full_empty, full_none}
+use Rattle.std.proofs.Common.{Some, sym, ◌∙◌, arith}
+use Rattle.flags.proofs.Empties.{no_empty, one_empty}
+use Rattle.flags.proofs.Parts.{told}
 use Rattle.flags.proofs.full.FullFlagFlagKind.of.Goals as goal
+
+pub returns-in-Some : goal.returns-in-Some
+returns-in-Some g c =
+    let part = one_empty (g.T.Table.rows c.args.table.now) c.args.from c.args.to c.in-Some.row c.in-Some.ensures.answer (omega arith) in
+    record { flag = sym (told part); until = part }
 
 pub returns-in_default : goal.returns-in_default
 returns-in_default g c =
-    let told = λ (k : ℕ). full_none (g.T.Table.rows c.args.table.now) c.args.from k c.in_default.ensures.answer in
-    record { flag = sym (told c.args.to); until = record { reached = search rules; same = λ k above below. told k } }
+    let part = no_empty (g.T.Table.rows c.args.table.now) c.args.from c.args.to (Some c.in-Some.row) c.in-Some.ensures.answer (omega arith) in
+    record { flag = sym (told part); until = part }
 
-pub returns-then-row-to : goal.returns-then-row-to
-returns-then-row-to g c =
-    let told = λ (k : ℕ). full_before (g.T.Table.rows c.args.table.now) c.args.from k c.in-Some.row c.in-Some.ensures.answer in
-    record { flag = sym (told c.args.to (omega arith)); until = record { reached = omega arith; same = λ k above below. told k below } }
-
-pub returns : goal.returns
-returns g c =
-    let told = λ (k : ℕ). full_empty (g.T.Table.rows c.args.table.now) c.args.from k c.in-Some.row c.in-Some.ensures.answer in
-    record { flag = sym (told c.args.to (omega arith)); until = record { reached = search rules; same = λ k above below. told k (omega arith) } }
+pub returns-in_default-2 : goal.returns-in_default-2
+returns-in_default-2 g c =
+    let part = no_empty (g.T.Table.rows c.args.table.now) c.args.from c.args.to c.first_empty.result c.first_empty.ensures.answer (rw (c.first_empty.ensures.answer ∙ sym c.in_default.ensures.answer) tt) in
+    record { flag = sym (told part); until = part }
