@@ -2,6 +2,7 @@
 --   Stands   a row now, beside the row as it was when the group began
 use Rattle.std.proofs.Common.{◌≡◌, ℕ, ◌<◌, Bool, true, false, not, ◌&&◌, ◌||◌, List, [], ◌∷◌, ◌++◌, map, length, get_or, Some, None, Option, sym, refl, ap, ◌∙◌, arith}
 use Rattle.life.specs.Walks.{agrees_with, matched}
+use Rattle.std.proofs.Math.Bool.{and-true, and_assoc}
 use Rattle.std.proofs.lemmas.List.Elements.{AllZip-get_or, length_all_zip}
 use Rattle.std.specs.List.{AllZip}
 use Rattle.table.specs.Calls.{row_at}
@@ -33,17 +34,10 @@ stands_head q e rs = each_of (Stands (q ∷ [])) (searched q) (λ row. record { 
 
 -- the searches after it
 agrees_push : (S : List Search) (q : Search) (words : List ℕ) → agrees_with (S ++ q ∷ []) words ≡ (agrees_with S words && agrees q (get_or words q.segment 0))
-agrees_push [] q words = last (agrees q (get_or words q.segment 0))
-  where
-    last : (a : Bool) → (a && true) ≡ a
-    last true = refl
-    last false = refl
+agrees_push [] q words = and-true (agrees q (get_or words q.segment 0))
 agrees_push (p ∷ S) q words =
-    ap (λ b. agrees p (get_or words p.segment 0) && b) (agrees_push S q words) ∙ assoc (agrees p (get_or words p.segment 0)) (agrees_with S words) (agrees q (get_or words q.segment 0))
-  where
-    assoc : (a b c : Bool) → (a && (b && c)) ≡ ((a && b) && c)
-    assoc true b c = refl
-    assoc false b c = refl
+    ap (λ b. agrees p (get_or words p.segment 0) && b) (agrees_push S q words)
+    ∙ sym (and_assoc (agrees p (get_or words p.segment 0)) (agrees_with S words) (agrees q (get_or words q.segment 0)))
 
 step_hit : (valid a s : Bool) → (valid && (a && (valid && s))) ≡ (valid && (s && a))
 step_hit true true true = refl

@@ -1,13 +1,13 @@
 -- What each call of a processor answers and leaves, from the state before it. Assumes nothing.
 --   State             a table's width and rows, and the registers beside it
---   told              an answer, or the refusal of a layer
---   …_reply           the answer of a call of a group
+--   Reply             an answer, or the refusal of a layer
+--   …_reply           the reply to a call of a group
 --   …_rows, …_regs    the rows and the registers after it
 --   reply_to, after   the same of any call
---   lived, replies    the state after a list of calls, and the answers to them
+--   lived, replies    the state after a list of calls, and the replies to them
 use Rattle.std.specs.Prelude.{ℕ, List, [], ◌∷◌, map, Ok, Err, Option, Result}
 use Rattle.life.specs.declared.calls.Answer.{Answer}
-use Rattle.life.specs.declared.calls.Answer.TheVariants.{Done, Word as TheWord, Marks as TheMarks, Address, Registers as TheRegisters, Block as TheBlock, Refused}
+use Rattle.life.specs.declared.calls.Answer.TheVariants.{Done, Word as TheWord, Marks as TheMarks, Address, Registers as TheRegisters, Block as TheBlock}
 use Rattle.life.specs.declared.calls.Call.{Call}
 use Rattle.life.specs.declared.calls.Call.TheVariants.{OnRow, Search as SearchFor, OnWalk, OnSetUp, OnPort}
 use Rattle.life.specs.declared.calls.PortCall.{PortCall}
@@ -28,6 +28,7 @@ use Rattle.processor.specs.Commands.{at_address, became_valid, change_at, comman
 use Rattle.processor.specs.Walks.{after as address_after, found_in, moved_to, with_empty, with_found}
 use Rattle.processor.specs.declared.faults.CommandFault.{CommandFault}
 use Rattle.processor.specs.declared.faults.CommandFault.TheVariants.{NoHitAddress, NoEmptyAddress}
+use Rattle.processor.specs.declared.processors.Processor.{Processor}
 use Rattle.registers.specs.Fresh.{fresh}
 use Rattle.registers.specs.Setting.{blocks_checked, blocks_set, input_step_checked, input_step_set, output_step_checked, output_step_set, width_checked, width_set}
 use Rattle.registers.specs.Start.{input_checked, input_started, output_checked, output_started, stopped}
@@ -35,15 +36,20 @@ use Rattle.registers.specs.declared.state.Registers.{Registers}
 use Rattle.table.specs.Calls.{change, first, granted, marks_at, on_cell, on_row, on_segment, word_at}
 use Rattle.table.specs.Row.{Row, is_empty, is_hit, marked, purged, searched, unvisited, vacated, written}
 use Rattle.table.specs.declared.parts.Search.{Search}
+use Rattle.table.specs.declared.tables.Table.{Ghosts as Table}
 
 pub record State : Type 0 where
   pub width : ℕ
   pub rows : List Row
   pub registers : Registers
 
-abbrev pub told : {X F : Type 0} → (F → Fault) → (X → Answer) → Result X F → Answer
-told layer f (Ok x) = f x
-told layer f (Err e) = Refused (layer e)
+abbrev pub Reply : Type 0
+Reply = Result Answer Fault
+
+-- what a layer's answer comes to
+abbrev pub told : {X F : Type 0} → (F → Fault) → (X → Answer) → Result X F → Reply
+told layer f (Ok x) = Ok (f x)
+told layer f (Err e) = Err (layer e)
 
 abbrev pub done : Unit {0} → Answer
 done u = Done
@@ -64,7 +70,7 @@ cell_at_empty s g = at_address NoEmptyAddress (λ r. on_cell s.width s.rows r g 
 abbrev pub line_at_empty : State → Result (Unit {0}) CommandFault
 line_at_empty s = at_address NoEmptyAddress (λ r. on_row s.rows r tt) s.registers.empty
 
-abbrev pub row_reply : State → RowCall → Answer
+abbrev pub row_reply : State → RowCall → Reply
 row_reply s (Read r g) = told InCommand TheWord (command (on_cell s.width s.rows r g (word_at s.rows r g)))
 row_reply s (Write r g v) = told InCommand done (cell s r g)
 row_reply s (Marks r) = told InCommand TheMarks (command (on_row s.rows r (marks_at s.rows r)))
@@ -74,9 +80,9 @@ row_reply s (WriteAtHit g v) = told InCommand done (cell_at_hit s g)
 row_reply s (ReadAtEmpty g) = told InCommand TheWord (at_address NoEmptyAddress (λ r. on_cell s.width s.rows r g (word_at s.rows r g)) s.registers.empty)
 row_reply s (WriteAtEmpty g v) = told InCommand done (cell_at_empty s g)
 row_reply s Append = told InCommand done (line_at_empty s)
-row_reply s (Purge k) = Done
-row_reply s ClearAccess = Done
-row_reply s Reset = Done
+row_reply s (Purge k) = Ok Done
+row_reply s ClearAccess = Ok Done
+row_reply s Reset = Ok Done
 
 abbrev pub row_rows : State → RowCall → List Row
 row_rows s (Read r g) = s.rows
@@ -110,7 +116,7 @@ row_regs s Reset = fresh
 abbrev pub search_result : State → Search → Result (Option ℕ) CommandFault
 search_result s q = command (on_segment s.width q.segment (first is_hit (map (searched q) s.rows) 0))
 
-abbrev pub search_reply : State → Search → Answer
+abbrev pub search_reply : State → Search → Reply
 search_reply s q = told InCommand Address (search_result s q)
 
 abbrev pub search_rows : State → Search → List Row
@@ -125,6 +131,7 @@ next_hit s = address_after is_hit s.rows s.registers.found.address
 abbrev pub next_empty : State → Option ℕ
 next_empty s = address_after is_empty s.rows s.registers.empty
 
+-- no walk call is refused
 abbrev pub walk_reply : State → WalkCall → Answer
 walk_reply s Rewind = Address (first is_hit s.rows 0)
 walk_reply s NextHit = Address (next_hit s)
@@ -139,7 +146,7 @@ walk_regs s FindEmpty = with_empty (first is_empty s.rows 0) s.registers
 walk_regs s NextEmpty = with_empty (next_empty s) s.registers
 walk_regs s TellRegisters = s.registers
 
-abbrev pub set_up_reply : State → SetUpCall → Answer
+abbrev pub set_up_reply : State → SetUpCall → Reply
 set_up_reply s (InputStep c n to) = told InSetUp done (input_step_checked c n to s.registers)
 set_up_reply s (OutputStep c n to) = told InSetUp done (output_step_checked c n to s.registers)
 set_up_reply s (Blocks c take start) = told InSetUp done (blocks_checked c s.registers)
@@ -157,10 +164,10 @@ block_result s v = block_answer s.width s.registers v s.registers.input.sequence
 abbrev pub word_result : State → Result ℕ PortFault
 word_result s = word_answer s.width s.rows s.registers s.registers.output
 
-abbrev pub port_reply : State → PortCall → Answer
+abbrev pub port_reply : State → PortCall → Reply
 port_reply s (StartInput c n) = told InStart done (input_checked c n s.registers)
 port_reply s (StartOutput c n) = told InStart done (output_checked c n s.registers)
-port_reply s Stop = Done
+port_reply s Stop = Ok Done
 port_reply s (Block v) = told InPort TheBlock (block_result s v)
 port_reply s Word = told InPort TheWord (word_result s)
 
@@ -178,10 +185,10 @@ port_regs s Stop = stopped s.registers
 port_regs s (Block v) = granted (block_result s v) (block_left s.rows s.registers v s.registers.input.sequence) s.registers
 port_regs s Word = granted (word_result s) (word_left s.registers s.registers.output) s.registers
 
-abbrev pub reply_to : State → Call → Answer
+abbrev pub reply_to : State → Call → Reply
 reply_to s (OnRow c) = row_reply s c
 reply_to s (SearchFor q) = search_reply s q
-reply_to s (OnWalk c) = walk_reply s c
+reply_to s (OnWalk c) = Ok (walk_reply s c)
 reply_to s (OnSetUp c) = set_up_reply s c
 reply_to s (OnPort c) = port_reply s c
 
@@ -206,10 +213,10 @@ unfoldable pub lived : State → List Call → State
 lived s [] = s
 lived s (c ∷ cs) = lived (after s c) cs
 
-unfoldable pub replies : State → List Call → List Answer
+unfoldable pub replies : State → List Call → List Reply
 replies s [] = []
 replies s (c ∷ cs) = reply_to s c ∷ replies (after s c) cs
 
 -- the state of a processor, by the meaning of its table
-abbrev pub state_of : {T : Type 0} → (T → ℕ) → (T → List Row) → T → Registers → State
-state_of w rs t g = record { width = w t; rows = rs t; registers = g }
+abbrev pub state_of : {T : Type 0} → Table T → Processor T → State
+state_of t p = record { width = t.width p.table; rows = t.rows p.table; registers = p.registers }

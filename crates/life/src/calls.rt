@@ -1,11 +1,11 @@
-// Every call of a processor as a value, and every answer.
+// Every call of a processor as a value, every answer, and the reply to a call.
 use crate::faults::Fault;
 use ports::BlockAnswer;
 use registers::{InputStep, OutputStep, Registers};
 use table::{Marking, Marks, Purge, Search};
 
 // Reads and changes rows.
-#[derive(Clone, Copy)]
+#[derive(Clone, Copy, PartialEq, Eq, Debug)]
 pub enum RowCall {
     Read { row: u32, segment: u32 },
     Write { row: u32, segment: u32, word: u32 },
@@ -22,7 +22,7 @@ pub enum RowCall {
 }
 
 // Moves an address, or reads the registers.
-#[derive(Clone, Copy)]
+#[derive(Clone, Copy, PartialEq, Eq, Debug)]
 pub enum WalkCall {
     Rewind,
     NextHit,
@@ -31,8 +31,8 @@ pub enum WalkCall {
     Registers,
 }
 
-// Sets up the ports.
-#[derive(Clone, Copy)]
+// Sets up the ports. Channel, step and bits are plain numbers: a wrong one is a call too, and is refused.
+#[derive(Clone, Copy, PartialEq, Eq, Debug)]
 pub enum SetUpCall {
     InputStep {
         channel: u32,
@@ -55,7 +55,7 @@ pub enum SetUpCall {
 }
 
 // Runs the ports.
-#[derive(Clone, Copy)]
+#[derive(Clone, Copy, PartialEq, Eq, Debug)]
 pub enum PortCall {
     StartInput { channel: u32, step: u32 },
     StartOutput { channel: u32, step: u32 },
@@ -64,7 +64,7 @@ pub enum PortCall {
     Word,
 }
 
-#[derive(Clone, Copy)]
+#[derive(Clone, Copy, PartialEq, Eq, Debug)]
 pub enum Call {
     OnRow(RowCall),
     Search(Search),
@@ -73,7 +73,7 @@ pub enum Call {
     OnPort(PortCall),
 }
 
-#[derive(Clone, Copy)]
+#[derive(Clone, Copy, PartialEq, Eq, Debug)]
 pub enum Answer {
     Done,
     Word(u32),
@@ -81,5 +81,7 @@ pub enum Answer {
     Address(Option<u32>),
     Registers(Registers),
     Block(BlockAnswer),
-    Refused(Fault),
 }
+
+// What a call comes to: its answer, or the refusal of a layer.
+pub type Reply = Result<Answer, Fault>;

@@ -7,7 +7,7 @@ mod faults;
 mod lives;
 mod working;
 
-pub use calls::{Answer, Call, PortCall, RowCall, SetUpCall, WalkCall};
+pub use calls::{Answer, Call, PortCall, Reply, RowCall, SetUpCall, WalkCall};
 pub use faults::Fault;
 pub use lives::work;
 pub use working::perform;
