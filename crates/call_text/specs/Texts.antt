@@ -12,9 +12,8 @@ use Rattle.life.specs.declared.calls.SetUpCall.{SetUpCall}
 use Rattle.life.specs.declared.calls.SetUpCall.TheVariants.{InputStep as SetInput, OutputStep as SetOutput, Blocks, BlockWidth}
 use Rattle.life.specs.declared.calls.WalkCall.{WalkCall}
 use Rattle.life.specs.declared.calls.WalkCall.TheVariants.{Rewind, NextHit, FindEmpty, NextEmpty, Registers}
+use Rattle.registers.specs.Texts.{item_text}
 use Rattle.registers.specs.declared.setting.InputStep.{InputStep}
-use Rattle.registers.specs.declared.setting.Item.{Item}
-use Rattle.registers.specs.declared.setting.Item.TheVariants.{Key, Status, Address, Segment}
 use Rattle.registers.specs.declared.setting.OutputStep.{OutputStep}
 use Rattle.table.specs.declared.parts.Purge.{Purge}
 use Rattle.table.specs.declared.parts.Purge.TheVariants.{All, WithAccess, WithoutAccess}
@@ -64,12 +63,6 @@ walk_name NextHit = codes "next-hit"
 walk_name FindEmpty = codes "find-empty"
 walk_name NextEmpty = codes "next-empty"
 walk_name Registers = codes "registers"
-
-abbrev pub item_text : Item → List ℕ
-item_text (Key i) = codes "key" ++ number i
-item_text Status = codes "status"
-item_text Address = codes "address"
-item_text (Segment g) = codes "segment" ++ number g
 
 abbrev pub input_text : InputStep → List ℕ
 input_text t = hex_text 8 t.mask ++ (number t.shift ++ (number t.segment ++ (flag t.head (codes "head") ++ (flag t.access (codes "access") ++ flag t.end (codes "end")))))

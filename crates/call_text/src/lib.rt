@@ -6,4 +6,4 @@ mod reading;
 mod texts;
 
 pub use reading::read_call;
-pub use texts::{CallText, write_call};
+pub use texts::{CallText, InputStepText, OutputStepText, SearchText, write_call};

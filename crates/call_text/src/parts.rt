@@ -1,128 +1,141 @@
 // Reads the parts of calls: numbers in pairs, flags, kinds, steps of the ports.
 ghost use Rattle.std.specs.Prelude.{◌≡◌};
 ghost use Rattle.call_text.specs.Parts.{flag_at, input_at, item_named, marking_at, output_at, purge_at, search_at, state_named, two_numbers};
+ghost use Rattle.tokens.specs.Numbers.{told};
 ghost use Rattle.tokens.specs.Words.{next_end, next_word, word_start};
 
 use registers::{InputStep, Item, OutputStep};
 use table::{Marking, Purge, Search};
-use tokens::{Expected, TextFault, next_word, number_32};
+use tokens::{Cursor, Expected, TextFault};
 
-pub(crate) fn two_numbers(line: &[u8], at: usize) -> Result<((u32, u32), usize), TextFault>
-    ensures answer { result ≡ two_numbers line.now at }
+pub(crate) fn two_numbers(rest: &mut Cursor) -> Result<(u32, u32), TextFault>
+    ensures answer { told result rest.new.at ≡ two_numbers rest.old.line.now rest.old.at }
+    ensures line { rest.new.line ≡ rest.old.line }
 {
-    let (first, at) = number_32(line, at)?;
-    let (second, at) = number_32(line, at)?;
-    Ok(((first, second), at))
+    let first = rest.number()?;
+    let second = rest.number()?;
+    Ok((first, second))
 }
 
-// Whether a flag is set, and the place behind it. A word that is not its name is left to be read.
-fn flag(line: &[u8], at: usize, name: &[u8]) -> (bool, usize)
-    ensures answer { result ≡ flag_at line.now at name.now }
+// Whether a flag is set. A word that is not its name is left to be read.
+fn flag(rest: &mut Cursor, name: &[u8]) -> bool
+    ensures answer { (result, rest.new.at) ≡ flag_at rest.old.line.now rest.old.at name.now }
+    ensures line { rest.new.line ≡ rest.old.line }
 {
-    let word = next_word(line, at);
-    if word.is(name) {
-        (true, word.end)
-    } else {
-        (false, at)
+    let word = rest.next_word();
+    let set = word.is(name);
+    if set {
+        rest.at = word.end;
     }
+    set
 }
+
+// By tests of whole words: under a `match` on a word's bytes the contracts here and in `reading` stay open.
 
 // Whether a row is to be empty.
-fn state(line: &[u8], at: usize) -> Result<(bool, usize), TextFault>
-    ensures answer { result ≡ state_named (next_word line.now at) (word_start line.now at) (next_end line.now at) }
+fn state(rest: &mut Cursor) -> Result<bool, TextFault>
+    ensures answer { told result rest.new.at ≡ state_named (next_word rest.old.line.now rest.old.at) (word_start rest.old.line.now rest.old.at) (next_end rest.old.line.now rest.old.at) }
+    ensures line { rest.new.line ≡ rest.old.line }
 {
-    let word = next_word(line, at);
-    if word.is(b"valid") {
-        Ok((false, word.end))
+    let word = rest.next_word();
+    let empty = if word.is(b"valid") {
+        false
     } else if word.is(b"empty") {
-        Ok((true, word.end))
+        true
     } else {
-        Err(word.fault(Expected::State))
-    }
+        return Err(word.fault(Expected::State));
+    };
+    rest.at = word.end;
+    Ok(empty)
 }
 
-pub(crate) fn marking(line: &[u8], at: usize) -> Result<(Marking, usize), TextFault>
-    ensures answer { result ≡ marking_at line.now at }
+pub(crate) fn marking(rest: &mut Cursor) -> Result<Marking, TextFault>
+    ensures answer { told result rest.new.at ≡ marking_at rest.old.line.now rest.old.at }
+    ensures line { rest.new.line ≡ rest.old.line }
 {
-    let (empty, at) = state(line, at)?;
-    let (access, at) = flag(line, at, b"access");
-    Ok((Marking { empty, access }, at))
+    let empty = state(rest)?;
+    let access = flag(rest, b"access");
+    Ok(Marking { empty, access })
 }
 
-pub(crate) fn purge(line: &[u8], at: usize) -> Result<(Purge, usize), TextFault>
-    ensures answer { result ≡ purge_at line.now at }
+pub(crate) fn purge(rest: &mut Cursor) -> Result<Purge, TextFault>
+    ensures answer { told result rest.new.at ≡ purge_at rest.old.line.now rest.old.at }
+    ensures line { rest.new.line ≡ rest.old.line }
 {
-    let word = next_word(line, at);
-    if word.is(b"all") {
-        Ok((Purge::All, word.end))
+    let word = rest.next_word();
+    let kind = if word.is(b"all") {
+        Purge::All
     } else if word.is(b"with-access") {
-        Ok((Purge::WithAccess, word.end))
+        Purge::WithAccess
     } else if word.is(b"without-access") {
-        Ok((Purge::WithoutAccess, word.end))
+        Purge::WithoutAccess
     } else {
-        Err(word.fault(Expected::Purge))
-    }
+        return Err(word.fault(Expected::Purge));
+    };
+    rest.at = word.end;
+    Ok(kind)
 }
 
-pub(crate) fn search(line: &[u8], at: usize) -> Result<(Search, usize), TextFault>
-    ensures answer { result ≡ search_at line.now at }
+pub(crate) fn search(rest: &mut Cursor) -> Result<Search, TextFault>
+    ensures answer { told result rest.new.at ≡ search_at rest.old.line.now rest.old.at }
+    ensures line { rest.new.line ≡ rest.old.line }
 {
-    let ((key, mask), at) = two_numbers(line, at)?;
-    let (segment, at) = number_32(line, at)?;
-    let (head, at) = flag(line, at, b"head");
-    let (access, at) = flag(line, at, b"access");
-    let query = Search {
+    let (key, mask) = two_numbers(rest)?;
+    let segment = rest.number()?;
+    let head = flag(rest, b"head");
+    let access = flag(rest, b"access");
+    Ok(Search {
         key,
         mask,
         segment,
         head,
         access,
-    };
-    Ok((query, at))
+    })
 }
 
-pub(crate) fn input_step(line: &[u8], at: usize) -> Result<(InputStep, usize), TextFault>
-    ensures answer { result ≡ input_at line.now at }
+pub(crate) fn input_step(rest: &mut Cursor) -> Result<InputStep, TextFault>
+    ensures answer { told result rest.new.at ≡ input_at rest.old.line.now rest.old.at }
+    ensures line { rest.new.line ≡ rest.old.line }
 {
-    let (mask, at) = number_32(line, at)?;
-    let ((shift, segment), at) = two_numbers(line, at)?;
-    let (head, at) = flag(line, at, b"head");
-    let (access, at) = flag(line, at, b"access");
-    let (end, at) = flag(line, at, b"end");
-    let step = InputStep {
+    let mask = rest.number()?;
+    let (shift, segment) = two_numbers(rest)?;
+    let head = flag(rest, b"head");
+    let access = flag(rest, b"access");
+    let end = flag(rest, b"end");
+    Ok(InputStep {
         mask,
         shift,
         segment,
         head,
         access,
         end,
-    };
-    Ok((step, at))
+    })
 }
 
-fn item(line: &[u8], at: usize) -> Result<(Item, usize), TextFault>
-    ensures answer { result ≡ item_named line.now (next_word line.now at) (word_start line.now at) (next_end line.now at) }
+fn item(rest: &mut Cursor) -> Result<Item, TextFault>
+    ensures answer { told result rest.new.at ≡ item_named rest.old.line.now (next_word rest.old.line.now rest.old.at) (word_start rest.old.line.now rest.old.at) (next_end rest.old.line.now rest.old.at) }
+    ensures line { rest.new.line ≡ rest.old.line }
 {
-    let word = next_word(line, at);
+    let word = rest.next_word();
+    rest.at = word.end;
     if word.is(b"key") {
-        let (step, at) = number_32(line, word.end)?;
-        Ok((Item::Key(step), at))
+        Ok(Item::Key(rest.number()?))
     } else if word.is(b"status") {
-        Ok((Item::Status, word.end))
+        Ok(Item::Status)
     } else if word.is(b"address") {
-        Ok((Item::Address, word.end))
+        Ok(Item::Address)
     } else if word.is(b"segment") {
-        let (segment, at) = number_32(line, word.end)?;
-        Ok((Item::Segment(segment), at))
+        Ok(Item::Segment(rest.number()?))
     } else {
         Err(word.fault(Expected::Item))
     }
 }
 
-pub(crate) fn output_step(line: &[u8], at: usize) -> Result<(OutputStep, usize), TextFault>
-    ensures answer { result ≡ output_at line.now at }
+pub(crate) fn output_step(rest: &mut Cursor) -> Result<OutputStep, TextFault>
+    ensures answer { told result rest.new.at ≡ output_at rest.old.line.now rest.old.at }
+    ensures line { rest.new.line ≡ rest.old.line }
 {
-    let (item, at) = item(line, at)?;
-    let (end, at) = flag(line, at, b"end");
-    Ok((OutputStep { item, end }, at))
+    let item = item(rest)?;
+    let end = flag(rest, b"end");
+    Ok(OutputStep { item, end })
 }

@@ -1,176 +1,182 @@
 // Reads calls: the first word names the call, and the parts follow in their order. Each function
-// knows one group of names, and hands any other name to the next.
-ghost use Rattle.std.specs.Prelude.{◌≡◌};
+// knows one group of names, and hands any other name to the next; the place is behind the name, which
+// goes along, so that it is looked for once.
+ghost use Rattle.std.specs.Prelude.{◌≡◌, IfErr};
+ghost use Rattle.call_text.specs.Parts.{into};
 ghost use Rattle.call_text.specs.Reading.{address_call, blocks_at, cell_call, port_call, read_call, set_up_call, table_call, walk_call};
+ghost use Rattle.life.specs.declared.calls.Call.TheVariants.{OnSetUp};
+ghost use Rattle.tokens.specs.Numbers.{told};
 
 use crate::parts::{input_step, marking, output_step, purge, search, two_numbers};
 use life::{Call, PortCall, RowCall, SetUpCall, WalkCall};
-use tokens::{Expected, TextFault, Word, next_word, number_32, number_64};
+use tokens::{Cursor, Expected, TextFault, Word};
 
-fn blocks(line: &[u8], at: usize) -> Result<(Call, usize), TextFault>
-    ensures answer { result ≡ blocks_at line.now at }
+fn blocks(rest: &mut Cursor) -> Result<SetUpCall, TextFault>
+    ensures answer { into OnSetUp (told result rest.new.at) ≡ blocks_at rest.old.line.now rest.old.at }
+    ensures line { rest.new.line ≡ rest.old.line }
 {
-    let (channel, at) = number_32(line, at)?;
-    let (take, at) = number_64(line, at)?;
-    let (start, at) = number_64(line, at)?;
-    let call = SetUpCall::Blocks {
+    let channel = rest.number()?;
+    let take = rest.number()?;
+    let start = rest.number()?;
+    Ok(SetUpCall::Blocks {
         channel,
         take,
         start,
-    };
-    Ok((Call::OnSetUp(call), at))
+    })
 }
 
 // The calls that run the ports.
-fn port_call(line: &[u8], word: Word) -> Result<(Call, usize), TextFault>
-    ensures answer { result ≡ port_call line.now word.entry.text.now word.entry.start word.entry.end }
+fn port_call(word: Word, rest: &mut Cursor) -> Result<Call, TextFault>
+    ensures answer { told result rest.new.at ≡ port_call rest.old.line.now word.entry.text.now word.entry.start rest.old.at }
+    ensures line { rest.new.line ≡ rest.old.line }
 {
-    if word.is(b"start-input") {
-        let ((channel, step), at) = two_numbers(line, word.end)?;
-        Ok((Call::OnPort(PortCall::StartInput { channel, step }), at))
+    let call = if word.is(b"start-input") {
+        let (channel, step) = two_numbers(rest)?;
+        PortCall::StartInput { channel, step }
     } else if word.is(b"start-output") {
-        let ((channel, step), at) = two_numbers(line, word.end)?;
-        Ok((Call::OnPort(PortCall::StartOutput { channel, step }), at))
+        let (channel, step) = two_numbers(rest)?;
+        PortCall::StartOutput { channel, step }
     } else if word.is(b"stop") {
-        Ok((Call::OnPort(PortCall::Stop), word.end))
+        PortCall::Stop
     } else if word.is(b"block") {
-        let (value, at) = number_32(line, word.end)?;
-        Ok((Call::OnPort(PortCall::Block { value }), at))
+        let value = rest.number()?;
+        PortCall::Block { value }
     } else if word.is(b"word") {
-        Ok((Call::OnPort(PortCall::Word), word.end))
+        PortCall::Word
     } else {
-        Err(word.fault(Expected::Call))
-    }
+        return Err(word.fault(Expected::Call));
+    };
+    Ok(Call::OnPort(call))
 }
 
 // The calls that set up the ports.
-fn set_up_call(line: &[u8], word: Word) -> Result<(Call, usize), TextFault>
-    ensures answer { result ≡ set_up_call line.now word.entry.text.now word.entry.start word.entry.end }
+fn set_up_call(word: Word, rest: &mut Cursor) -> Result<Call, TextFault>
+    ensures answer { told result rest.new.at ≡ set_up_call rest.old.line.now word.entry.text.now word.entry.start rest.old.at }
+    ensures line { rest.new.line ≡ rest.old.line }
 {
-    if word.is(b"set-input") {
-        let ((channel, step), at) = two_numbers(line, word.end)?;
-        let (to, at) = input_step(line, at)?;
-        Ok((
-            Call::OnSetUp(SetUpCall::InputStep { channel, step, to }),
-            at,
-        ))
+    let call = if word.is(b"set-input") {
+        let (channel, step) = two_numbers(rest)?;
+        let to = input_step(rest)?;
+        SetUpCall::InputStep { channel, step, to }
     } else if word.is(b"set-output") {
-        let ((channel, step), at) = two_numbers(line, word.end)?;
-        let (to, at) = output_step(line, at)?;
-        Ok((
-            Call::OnSetUp(SetUpCall::OutputStep { channel, step, to }),
-            at,
-        ))
+        let (channel, step) = two_numbers(rest)?;
+        let to = output_step(rest)?;
+        SetUpCall::OutputStep { channel, step, to }
     } else if word.is(b"set-blocks") {
-        blocks(line, word.end)
+        blocks(rest)?
     } else if word.is(b"set-width") {
-        let (bits, at) = number_32(line, word.end)?;
-        Ok((Call::OnSetUp(SetUpCall::BlockWidth { bits }), at))
+        let bits = rest.number()?;
+        SetUpCall::BlockWidth { bits }
     } else {
-        port_call(line, word)
-    }
+        return port_call(word, rest);
+    };
+    Ok(Call::OnSetUp(call))
 }
 
 // The calls that move an address, or read the registers.
-fn walk_call(line: &[u8], word: Word) -> Result<(Call, usize), TextFault>
-    ensures answer { result ≡ walk_call line.now word.entry.text.now word.entry.start word.entry.end }
+fn walk_call(word: Word, rest: &mut Cursor) -> Result<Call, TextFault>
+    ensures answer { told result rest.new.at ≡ walk_call rest.old.line.now word.entry.text.now word.entry.start rest.old.at }
+    ensures line { rest.new.line ≡ rest.old.line }
 {
-    if word.is(b"rewind") {
-        Ok((Call::OnWalk(WalkCall::Rewind), word.end))
+    let call = if word.is(b"rewind") {
+        WalkCall::Rewind
     } else if word.is(b"next-hit") {
-        Ok((Call::OnWalk(WalkCall::NextHit), word.end))
+        WalkCall::NextHit
     } else if word.is(b"find-empty") {
-        Ok((Call::OnWalk(WalkCall::FindEmpty), word.end))
+        WalkCall::FindEmpty
     } else if word.is(b"next-empty") {
-        Ok((Call::OnWalk(WalkCall::NextEmpty), word.end))
+        WalkCall::NextEmpty
     } else if word.is(b"registers") {
-        Ok((Call::OnWalk(WalkCall::Registers), word.end))
+        WalkCall::Registers
     } else {
-        set_up_call(line, word)
-    }
+        return set_up_call(word, rest);
+    };
+    Ok(Call::OnWalk(call))
 }
 
 // The calls that change all rows, or the next empty one.
-fn table_call(line: &[u8], word: Word) -> Result<(Call, usize), TextFault>
-    ensures answer { result ≡ table_call line.now word.entry.text.now word.entry.start word.entry.end }
+fn table_call(word: Word, rest: &mut Cursor) -> Result<Call, TextFault>
+    ensures answer { told result rest.new.at ≡ table_call rest.old.line.now word.entry.text.now word.entry.start rest.old.at }
+    ensures line { rest.new.line ≡ rest.old.line }
 {
-    if word.is(b"append") {
-        Ok((Call::OnRow(RowCall::Append), word.end))
+    let call = if word.is(b"append") {
+        RowCall::Append
     } else if word.is(b"purge") {
-        let (kind, at) = purge(line, word.end)?;
-        Ok((Call::OnRow(RowCall::Purge(kind)), at))
+        let kind = purge(rest)?;
+        RowCall::Purge(kind)
     } else if word.is(b"clear-access") {
-        Ok((Call::OnRow(RowCall::ClearAccess), word.end))
+        RowCall::ClearAccess
     } else if word.is(b"reset") {
-        Ok((Call::OnRow(RowCall::Reset), word.end))
+        RowCall::Reset
     } else {
-        walk_call(line, word)
-    }
+        return walk_call(word, rest);
+    };
+    Ok(Call::OnRow(call))
 }
 
 // The calls on the row at the hit address or the empty address.
-fn address_call(line: &[u8], word: Word) -> Result<(Call, usize), TextFault>
-    ensures answer { result ≡ address_call line.now word.entry.text.now word.entry.start word.entry.end }
+fn address_call(word: Word, rest: &mut Cursor) -> Result<Call, TextFault>
+    ensures answer { told result rest.new.at ≡ address_call rest.old.line.now word.entry.text.now word.entry.start rest.old.at }
+    ensures line { rest.new.line ≡ rest.old.line }
 {
-    if word.is(b"read-hit") {
-        let (segment, at) = number_32(line, word.end)?;
-        Ok((Call::OnRow(RowCall::ReadAtHit { segment }), at))
+    let call = if word.is(b"read-hit") {
+        let segment = rest.number()?;
+        RowCall::ReadAtHit { segment }
     } else if word.is(b"write-hit") {
-        let ((segment, value), at) = two_numbers(line, word.end)?;
-        Ok((
-            Call::OnRow(RowCall::WriteAtHit {
-                segment,
-                word: value,
-            }),
-            at,
-        ))
+        let (segment, word) = two_numbers(rest)?;
+        RowCall::WriteAtHit { segment, word }
     } else if word.is(b"read-empty") {
-        let (segment, at) = number_32(line, word.end)?;
-        Ok((Call::OnRow(RowCall::ReadAtEmpty { segment }), at))
+        let segment = rest.number()?;
+        RowCall::ReadAtEmpty { segment }
     } else if word.is(b"write-empty") {
-        let ((segment, value), at) = two_numbers(line, word.end)?;
-        Ok((
-            Call::OnRow(RowCall::WriteAtEmpty {
-                segment,
-                word: value,
-            }),
-            at,
-        ))
+        let (segment, word) = two_numbers(rest)?;
+        RowCall::WriteAtEmpty { segment, word }
     } else {
-        table_call(line, word)
-    }
+        return table_call(word, rest);
+    };
+    Ok(Call::OnRow(call))
 }
 
 // The calls on a row by its number, and the search.
-fn cell_call(line: &[u8], word: Word) -> Result<(Call, usize), TextFault>
-    ensures answer { result ≡ cell_call line.now word.entry.text.now word.entry.start word.entry.end }
+fn row_or_search_call(word: Word, rest: &mut Cursor) -> Result<Call, TextFault>
+    ensures answer { told result rest.new.at ≡ cell_call rest.old.line.now word.entry.text.now word.entry.start rest.old.at }
+    ensures line { rest.new.line ≡ rest.old.line }
 {
     if word.is(b"read") {
-        let ((row, segment), at) = two_numbers(line, word.end)?;
-        Ok((Call::OnRow(RowCall::Read { row, segment }), at))
+        let (row, segment) = two_numbers(rest)?;
+        Ok(Call::OnRow(RowCall::Read { row, segment }))
     } else if word.is(b"write") {
-        let ((row, segment), at) = two_numbers(line, word.end)?;
-        let (word, at) = number_32(line, at)?;
-        Ok((Call::OnRow(RowCall::Write { row, segment, word }), at))
+        let (row, segment) = two_numbers(rest)?;
+        let word = rest.number()?;
+        Ok(Call::OnRow(RowCall::Write { row, segment, word }))
     } else if word.is(b"marks") {
-        let (row, at) = number_32(line, word.end)?;
-        Ok((Call::OnRow(RowCall::Marks { row }), at))
+        let row = rest.number()?;
+        Ok(Call::OnRow(RowCall::Marks { row }))
     } else if word.is(b"set-marks") {
-        let (row, at) = number_32(line, word.end)?;
-        let (marking, at) = marking(line, at)?;
-        Ok((Call::OnRow(RowCall::SetMarks { row, marking }), at))
+        let row = rest.number()?;
+        let marking = marking(rest)?;
+        Ok(Call::OnRow(RowCall::SetMarks { row, marking }))
     } else if word.is(b"search") {
-        let (query, at) = search(line, word.end)?;
-        Ok((Call::Search(query), at))
+        let query = search(rest)?;
+        Ok(Call::Search(query))
     } else {
-        address_call(line, word)
+        address_call(word, rest)
     }
 }
 
-// The call whose name is the first word from `at` on, and the place behind its last word. Flags are
-// taken where they stand; what else follows is not looked at.
-pub fn read_call(line: &[u8], at: usize) -> Result<(Call, usize), TextFault>
-    ensures answer { result ≡ read_call line.now at }
+// The call whose name is the next word; then the place is behind its last word. Flags are taken where
+// they stand; what else follows is not looked at. After a fault the place is the old one.
+pub fn read_call(rest: &mut Cursor) -> Result<Call, TextFault>
+    ensures answer { told result rest.new.at ≡ read_call rest.old.line.now rest.old.at }
+    ensures line { rest.new.line ≡ rest.old.line }
+    ensures fault { IfErr result (λ _. rest.new.at ≡ rest.old.at) }
 {
-    cell_call(line, next_word(line, at))
+    let name = rest.next_word();
+    let mut parts = Cursor {
+        at: name.end,
+        ..*rest
+    };
+    let call = row_or_search_call(name, &mut parts)?;
+    rest.at = parts.at;
+    Ok(call)
 }

@@ -1,13 +1,14 @@
-// The text of each call: its name, its numbers and its flags, with one space between words.
-ghost use Rattle.std.specs.Prelude.{◌≡◌, [], ◌++◌, if◌then◌else◌, Some, string_bytes, OnOk};
-ghost use Rattle.call_text.specs.Texts.{call_text, input_text, item_text, output_text, port_text, purge_name, row_text, search_text, set_up_text, walk_name};
+// The text of each call: its name, its numbers and its flags, with one space between words. It stands
+// here, in newtypes, since the crates of the calls and of their parts know no `Hex`.
+ghost use Rattle.std.specs.Prelude.{◌≡◌, ◌++◌, Some, string_bytes, OnOk};
+ghost use Rattle.call_text.specs.Texts.{call_text, input_text, output_text, port_text, purge_name, row_text, search_text, set_up_text, walk_name};
 
 use life::{Call, PortCall, RowCall, SetUpCall, WalkCall};
-use registers::{InputStep, Item, OutputStep};
+use registers::{InputStep, OutputStep};
 use std::alloc::AllocError;
 use std::fmt;
 use table::{Purge, Search};
-use tokens::{Hex, LongHex};
+use tokens::{Hex, word_if};
 
 #[derive(Clone, Copy)]
 pub struct CallText(pub Call);
@@ -16,29 +17,23 @@ pub struct CallText(pub Call);
 struct RowText(RowCall);
 
 #[derive(Clone, Copy)]
-struct SearchText(Search);
+pub struct SearchText(pub Search);
 
 #[derive(Clone, Copy)]
 struct SetUpText(SetUpCall);
 
+// A step of the input port as text.
 #[derive(Clone, Copy)]
-struct InputText(InputStep);
+pub struct InputStepText(pub InputStep);
 
+// A step of the output port as text.
 #[derive(Clone, Copy)]
-struct OutputText(OutputStep);
-
-#[derive(Clone, Copy)]
-struct ItemText(Item);
+pub struct OutputStepText(pub OutputStep);
 
 #[derive(Clone, Copy)]
 struct PortText(PortCall);
 
-fn flag_text(set: bool, text: &'static str) -> &'static str
-    ensures answer { result.now ≡ (if set then text.now else []) }
-{
-    if set { text } else { "" }
-}
-
+// The words of a listing, here and in `walk_name`; the program has others, so neither is a `Display`.
 fn purge_name(kind: Purge) -> &'static str
     ensures answer { result.now ≡ purge_name kind }
 {
@@ -56,30 +51,20 @@ impl fmt::Display for RowText {
         match self.0 {
             RowCall::Read { row, segment } => write!(f, "read {row} {segment}"),
             RowCall::Write { row, segment, word } => {
-                let word = Hex(word);
-                write!(f, "write {row} {segment} {word}")
+                write!(f, "write {row} {segment} {}", Hex(word))
             }
             RowCall::Marks { row } => write!(f, "marks {row}"),
-            RowCall::SetMarks { row, marking } => {
-                let state = if marking.empty { "empty" } else { "valid" };
-                let access = flag_text(marking.access, " access");
-                write!(f, "set-marks {row} {state}{access}")
-            }
+            RowCall::SetMarks { row, marking } => write!(f, "set-marks {row} {marking}"),
             RowCall::ReadAtHit { segment } => write!(f, "read-hit {segment}"),
             RowCall::WriteAtHit { segment, word } => {
-                let word = Hex(word);
-                write!(f, "write-hit {segment} {word}")
+                write!(f, "write-hit {segment} {}", Hex(word))
             }
             RowCall::ReadAtEmpty { segment } => write!(f, "read-empty {segment}"),
             RowCall::WriteAtEmpty { segment, word } => {
-                let word = Hex(word);
-                write!(f, "write-empty {segment} {word}")
+                write!(f, "write-empty {segment} {}", Hex(word))
             }
             RowCall::Append => f.write_str("append"),
-            RowCall::Purge(kind) => {
-                let kind = purge_name(kind);
-                write!(f, "purge {kind}")
-            }
+            RowCall::Purge(kind) => write!(f, "purge {}", purge_name(kind)),
             RowCall::ClearAccess => f.write_str("clear-access"),
             RowCall::Reset => f.write_str("reset"),
         }
@@ -93,8 +78,8 @@ impl fmt::Display for SearchText {
         let key = Hex(self.0.key);
         let mask = Hex(self.0.mask);
         let segment = self.0.segment;
-        let head = flag_text(self.0.head, " head");
-        let access = flag_text(self.0.access, " access");
+        let head = word_if(self.0.head, " head");
+        let access = word_if(self.0.access, " access");
         write!(f, "search {key} {mask} {segment}{head}{access}")
     }
 }
@@ -111,40 +96,26 @@ fn walk_name(call: WalkCall) -> &'static str
     }
 }
 
-impl fmt::Display for ItemText {
-    ghost output = { λ x. Some (item_text x.0) };
-
-    fn fmt<W: fmt::Write>(&self, f: &mut fmt::Formatter<W>) -> fmt::Result {
-        match self.0 {
-            Item::Key(step) => write!(f, "key {step}"),
-            Item::Status => f.write_str("status"),
-            Item::Address => f.write_str("address"),
-            Item::Segment(segment) => write!(f, "segment {segment}"),
-        }
-    }
-}
-
-impl fmt::Display for InputText {
+impl fmt::Display for InputStepText {
     ghost output = { λ x. Some (input_text x.0) };
 
     fn fmt<W: fmt::Write>(&self, f: &mut fmt::Formatter<W>) -> fmt::Result {
         let mask = Hex(self.0.mask);
         let shift = self.0.shift;
         let segment = self.0.segment;
-        let head = flag_text(self.0.head, " head");
-        let access = flag_text(self.0.access, " access");
-        let end = flag_text(self.0.end, " end");
+        let head = word_if(self.0.head, " head");
+        let access = word_if(self.0.access, " access");
+        let end = word_if(self.0.end, " end");
         write!(f, "{mask} {shift} {segment}{head}{access}{end}")
     }
 }
 
-impl fmt::Display for OutputText {
+impl fmt::Display for OutputStepText {
     ghost output = { λ x. Some (output_text x.0) };
 
     fn fmt<W: fmt::Write>(&self, f: &mut fmt::Formatter<W>) -> fmt::Result {
-        let item = ItemText(self.0.item);
-        let end = flag_text(self.0.end, " end");
-        write!(f, "{item}{end}")
+        let OutputStep { item, end } = self.0;
+        write!(f, "{item}{}", word_if(end, " end"))
     }
 }
 
@@ -154,22 +125,16 @@ impl fmt::Display for SetUpText {
     fn fmt<W: fmt::Write>(&self, f: &mut fmt::Formatter<W>) -> fmt::Result {
         match self.0 {
             SetUpCall::InputStep { channel, step, to } => {
-                let to = InputText(to);
-                write!(f, "set-input {channel} {step} {to}")
+                write!(f, "set-input {channel} {step} {}", InputStepText(to))
             }
             SetUpCall::OutputStep { channel, step, to } => {
-                let to = OutputText(to);
-                write!(f, "set-output {channel} {step} {to}")
+                write!(f, "set-output {channel} {step} {}", OutputStepText(to))
             }
             SetUpCall::Blocks {
                 channel,
                 take,
                 start,
-            } => {
-                let take = LongHex(take);
-                let start = LongHex(start);
-                write!(f, "set-blocks {channel} {take} {start}")
-            }
+            } => { write!(f, "set-blocks {channel} {} {}", Hex(take), Hex(start)) }
             SetUpCall::BlockWidth { bits } => write!(f, "set-width {bits}"),
         }
     }
@@ -183,10 +148,7 @@ impl fmt::Display for PortText {
             PortCall::StartInput { channel, step } => write!(f, "start-input {channel} {step}"),
             PortCall::StartOutput { channel, step } => write!(f, "start-output {channel} {step}"),
             PortCall::Stop => f.write_str("stop"),
-            PortCall::Block { value } => {
-                let value = Hex(value);
-                write!(f, "block {value}")
-            }
+            PortCall::Block { value } => write!(f, "block {}", Hex(value)),
             PortCall::Word => f.write_str("word"),
         }
     }
@@ -210,8 +172,5 @@ impl fmt::Display for CallText {
 pub fn write_call(out: &mut String, call: Call) -> Result<(), AllocError>
     ensures bytes { OnOk result (string_bytes out.new ≡ string_bytes out.old ++ call_text call) }
 {
-    match write!(out, "{}", CallText(call)) {
-        Ok(()) => Ok(()),
-        Err(_) => Err(AllocError),
-    }
+    write!(out, "{}", CallText(call))
 }

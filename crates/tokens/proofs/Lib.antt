@@ -2,5 +2,4 @@ pub mod HexTexts
 pub mod Numerals
 pub mod ReadBack
 pub mod Reading
-pub mod Spans
 pub mod Written

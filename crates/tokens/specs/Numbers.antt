@@ -3,6 +3,7 @@
 --   numeral_of          the number that digits write, at least one, if it is at most `most`
 --   is_hex, number_of   a word is a number: behind `0x` or `0X` hexadecimal, else decimal
 --   number_at           the number that the next word writes, and the place behind it
+--   told_as, told       what was read, or its value, and the place behind it
 use Rattle.std.specs.Prelude.{ℕ, Bool, true, cond, ◌&&◌, ◌||◌, List, [], ◌∷◌, length, take, drop, Some, None, Ok, Err, codes, Option, Result, ◌==◌, nat_le, nat_lt}
 use Rattle.std.specs.Str.Parse.{digits_value}
 use Rattle.std.specs.Char.{digit_value}
@@ -42,3 +43,10 @@ number32 = number_at 4294967295 Number32
 
 abbrev pub number64 : List ℕ → ℕ → Result (ℕ × ℕ) TextFault
 number64 = number_at 18446744073709551615 Number64
+
+abbrev pub told_as : {X Y : Type 0} → (X → Y) → Result X TextFault → ℕ → Result (Y × ℕ) TextFault
+told_as value (Ok x) at = Ok (value x, at)
+told_as value (Err e) at = Err e
+
+abbrev pub told : {X : Type 0} → Result X TextFault → ℕ → Result (X × ℕ) TextFault
+told r at = told_as (λ x. x) r at

@@ -1,6 +1,8 @@
 // What is wrong with a line: the place, and what should have stood there.
-ghost use Rattle.std.specs.Prelude.{◌≡◌};
+ghost use Rattle.std.specs.Prelude.{◌≡◌, Some};
 ghost use Rattle.tokens.specs.Faults.{expected_text};
+
+use std::fmt;
 
 // What should have stood at a place.
 #[derive(Clone, Copy, PartialEq, Eq, Debug)]
@@ -29,7 +31,7 @@ pub struct TextFault {
 }
 
 impl Expected {
-    // What a user reads.
+    // What a user reads, also for callers that make no text.
     pub fn text(self) -> &'static str
         ensures answer { result.now ≡ expected_text self }
     {
@@ -49,5 +51,13 @@ impl Expected {
             Expected::Answer => "an answer",
             Expected::Width => "a width of 1 to 8",
         }
+    }
+}
+
+impl fmt::Display for Expected {
+    ghost output = { λ x. Some (expected_text x) };
+
+    fn fmt<W: fmt::Write>(&self, f: &mut fmt::Formatter<W>) -> fmt::Result {
+        f.write_str(self.text())
     }
 }

@@ -1,12 +1,17 @@
 // The words and numbers of a line of text: where they stand, what they say, and how they are written.
 #![tactic(auto)]
 
+mod cursor;
 mod faults;
+mod given;
 mod hex;
 mod numbers;
+mod numeral;
 mod words;
 
+pub use cursor::Cursor;
 pub use faults::{Expected, TextFault};
-pub use hex::{Hex, LongHex};
-pub use numbers::{number_32, number_64};
-pub use words::{Word, is_word, next_word, word_at, word_end, word_start};
+pub use given::word_if;
+pub use hex::Hex;
+pub use numeral::Numeral;
+pub use words::{Word, Words};

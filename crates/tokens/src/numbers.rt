@@ -1,26 +1,17 @@
 // Numbers of a line, decimal or hexadecimal: what a word of digits says, and whether it fits.
-ghost use Rattle.std.specs.Prelude.{◌≡◌, ◌≤◌, IfOk};
-ghost use Rattle.std.specs.Char.{digit_value};
-ghost use Rattle.tokens.specs.Laws.{Numbers32ReadBack, Numbers64ReadBack};
-ghost use Rattle.tokens.specs.Numbers.{is_hex, number32, number64, number_at, number_of, numeral_of};
+ghost use Rattle.std.specs.Prelude.{◌≡◌, ◌≤◌, IfErr, IfSome};
+ghost use Rattle.tokens.specs.Laws.{Numbers32ReadBack, Numbers64ReadBack, ReadBack};
+ghost use Rattle.tokens.specs.Numbers.{is_hex, number_at, number_of, numeral_of, or_fault, told_as};
 
-use crate::faults::{Expected, TextFault};
-use crate::words::next_word;
+use crate::cursor::Cursor;
+use crate::faults::TextFault;
+use crate::numeral::Numeral;
+use crate::words::Word;
 
-// What a byte says as a digit of a radix up to 36; 36 where it is none.
-fn digit_value(byte: u8) -> u64
-    ensures answer { result ≡ digit_value byte }
-{
-    match byte {
-        b'0'..=b'9' => u64::from(byte - b'0'),
-        b'A'..=b'Z' => u64::from(byte - b'A') + 10,
-        b'a'..=b'z' => u64::from(byte - b'a') + 10,
-        _ => 36,
-    }
-}
-
-// The number that the digits write, if it is at most `most`.
-fn numeral(digits: &[u8], radix: u64, most: u64) -> Option<u64>
+// The number that the digits write, if it is at most `most`. By hand: `from_str_radix` takes a sign.
+fn numeral(digits: &[u8], radix: u32, most: u64) -> Option<u64>
+    requires low { 2 ≤ radix }
+    requires high { radix ≤ 36 }
     ensures answer { result ≡ numeral_of most radix digits.now }
 {
     if digits.is_empty() {
@@ -28,24 +19,25 @@ fn numeral(digits: &[u8], radix: u64, most: u64) -> Option<u64>
     }
     let mut number: u64 = 0;
     for byte in digits {
-        let digit = digit_value(*byte);
-        if digit >= radix {
-            return None;
-        }
-        number = number.checked_mul(radix)?.checked_add(digit)?;
+        let digit = char::from(*byte).to_digit(radix)?;
+        let shifted = number.checked_mul(u64::from(radix))?;
+        number = shifted.checked_add(u64::from(digit))?;
     }
-    if number <= most { Some(number) } else { None }
+    Some(number).filter(|number| *number <= most)
 }
 
+// The definition of a word's number asks this too, so it is not left to `strip_prefix`.
 fn is_hex(word: &[u8]) -> bool
     ensures answer { result ≡ is_hex word.now }
 {
     word.starts_with(b"0x") || word.starts_with(b"0X")
 }
 
-// The number that a whole word writes.
+// The number that a whole word writes, if it is at most `most`.
+#[tactic(auto, unfolding(crate::specs::Numbers::number_of))]
 fn number_of(word: &[u8], most: u64) -> Option<u64>
     ensures answer { result ≡ number_of most word.now }
+    ensures within { IfSome result (λ n. n ≤ most) }
 {
     if is_hex(word) {
         numeral(&word[2..], 16, most)
@@ -54,33 +46,31 @@ fn number_of(word: &[u8], most: u64) -> Option<u64>
     }
 }
 
-// The number that the next word writes, and the place behind it.
-fn number(line: &[u8], at: usize, most: u64, expected: Expected) -> Result<(u64, usize), TextFault>
-    ensures answer { result ≡ number_at most expected line.now at }
-    ensures within { IfOk result (λ x. x.0 ≤ most) }
-{
-    let word = next_word(line, at);
-    match number_of(word.text, most) {
-        Some(number) => Ok((number, word.end)),
-        None => Err(word.fault(expected)),
+impl Word<'_> {
+    // The number that the word writes.
+    pub fn number<T: Numeral>(self) -> Result<T, TextFault>
+        ensures answer { told_as T.value result self.entry.end ≡ or_fault self.entry.start T.EXPECTED self.entry.end (number_of T.MOST self.entry.text.now) }
+    {
+        let fault = self.fault(T::EXPECTED);
+        let number = number_of(self.text, T::MOST).ok_or(fault)?;
+        T::from_u64(number).ok_or(fault)
     }
 }
 
-// The number of 32 bits that the next word writes, and the place behind it. Reading back a number
-// that was written gives the same number.
-pub fn number_32(line: &[u8], at: usize) -> Result<(u32, usize), TextFault>
-    ensures answer { result ≡ number32 line.now at }
-    ensures back { Numbers32ReadBack }
-{
-    let (number, end) = number(line, at, u64::from(u32::MAX), Expected::Number32)?;
-    Ok((number as u32, end))
-}
-
-// The number of 64 bits that the next word writes, and the place behind it. Reading back a number
-// that was written gives the same number.
-pub fn number_64(line: &[u8], at: usize) -> Result<(u64, usize), TextFault>
-    ensures answer { result ≡ number64 line.now at }
-    ensures back { Numbers64ReadBack }
-{
-    number(line, at, u64::MAX, Expected::Number64)
+impl Cursor<'_> {
+    // The number that the next word writes; then the place is behind the word. After a fault it is the
+    // old one. Reading back a number that was written gives the same number.
+    pub fn number<T: Numeral>(&mut self) -> Result<T, TextFault>
+        ensures answer { told_as T.value result self.new.at ≡ number_at T.MOST T.EXPECTED self.old.line.now self.old.at }
+        ensures line { self.new.line ≡ self.old.line }
+        ensures fault { IfErr result (λ _. self.new.at ≡ self.old.at) }
+        ensures back { ReadBack T.MOST T.EXPECTED T.DIGITS }
+        ensures back_32 { Numbers32ReadBack }
+        ensures back_64 { Numbers64ReadBack }
+    {
+        let word = self.next_word();
+        let number = word.number()?;
+        self.at = word.end;
+        Ok(number)
+    }
 }
