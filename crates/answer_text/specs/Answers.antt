@@ -1,35 +1,6 @@
--- Places, addresses, marks and a block's answer as text, in bytes. Assumes nothing.
---   given        a word that stands there only if something is set
-use Rattle.std.specs.Prelude.{ℕ, Bool, cond, List, [], ◌++◌, Some, None, codes, decimal, Option}
-use Rattle.ports.specs.declared.input.BlockAnswer.{BlockAnswer}
-use Rattle.ports.specs.declared.input.BlockAnswer.TheVariants.{Ignored, Taken, Searched}
-use Rattle.table.specs.declared.faults.Place.{Place}
-use Rattle.table.specs.declared.faults.Place.TheVariants.{Opening, Table, Command, SetUp, Start, Port, Flags}
-use Rattle.table.specs.declared.parts.Marks.{Marks}
-
-abbrev pub place_text : Place → List ℕ
-place_text Opening = codes "opening"
-place_text Table = codes "table"
-place_text Command = codes "command"
-place_text SetUp = codes "set-up"
-place_text Start = codes "start"
-place_text Port = codes "port"
-place_text Flags = codes "flags"
+-- An address as text, in bytes. Assumes nothing.
+use Rattle.std.specs.Prelude.{ℕ, List, ◌++◌, Some, None, codes, decimal, Option}
 
 abbrev pub address_text : Option ℕ → List ℕ
 address_text (Some row) = codes "row " ++ decimal row
 address_text None = codes "none"
-
-abbrev pub state_text : Bool → List ℕ
-state_text empty = cond empty (codes "empty") (codes "valid")
-
-abbrev pub given : Bool → List ℕ → List ℕ
-given set word = cond set word []
-
-abbrev pub marks_text : Marks → List ℕ
-marks_text m = state_text m.empty ++ (given m.access (codes " access") ++ given m.hit (codes " hit"))
-
-abbrev pub block_text : BlockAnswer → List ℕ
-block_text Ignored = codes "ignored"
-block_text Taken = codes "taken"
-block_text Searched = codes "searched"

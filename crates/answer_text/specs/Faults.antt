@@ -1,8 +1,7 @@
 -- The text of each refusal, as bytes: its number, its place, and what it carries. Assumes nothing.
---   …Cause   what a refusal carries: the step, the row or the segment asked for, the number out of
---            range, or what is wrong with a cut
+--   …_cause   what a refusal carries: the step, the row or the segment asked for, the number out of
+--             range, or what is wrong with a cut
 use Rattle.std.specs.Prelude.{ℕ, List, [], ◌++◌, codes, decimal}
-use Rattle.answer_text.specs.Answers.{place_text}
 use Rattle.flags.specs.Faults as flags
 use Rattle.flags.specs.declared.faults.FlagsFault.{FlagsFault}
 use Rattle.flags.specs.declared.faults.FlagsFault.TheVariants.{Length, Starts, Start}
@@ -17,8 +16,14 @@ use Rattle.registers.specs.declared.faults.SetUpFault.{SetUpFault}
 use Rattle.registers.specs.declared.faults.SetUpFault.TheVariants.{OutOfRange as SetUpRange, SequenceOpen}
 use Rattle.registers.specs.declared.faults.StartFault.{StartFault}
 use Rattle.registers.specs.declared.faults.StartFault.TheVariants.{OutOfRange as StartRange, NoHead, NoEnd}
+use Rattle.table.specs.Texts.{place_text}
+use Rattle.table.specs.declared.faults.Place.{Place}
 use Rattle.table.specs.declared.faults.TableFault.{TableFault}
 use Rattle.table.specs.declared.faults.TableFault.TheVariants.{Row, Segment}
+
+-- any refusal, by its number, its place and what it carries
+abbrev pub refusal_text : {F : Type 0} → (F → ℕ) → (F → Place) → (F → List ℕ) → F → List ℕ
+refusal_text number place cause f = codes "refused " ++ (decimal (number f) ++ (codes " " ++ (place_text (place f) ++ cause f)))
 
 abbrev pub table_cause : TableFault → List ℕ
 table_cause (Row row) = codes " row " ++ decimal row
@@ -55,7 +60,7 @@ cause_text (InStart fault) = start_cause fault
 cause_text (InPort fault) = port_cause fault
 
 abbrev pub fault_text : Fault → List ℕ
-fault_text f = codes "refused " ++ (decimal (number_of f) ++ (codes " " ++ (place_text (place_of f) ++ cause_text f)))
+fault_text = refusal_text number_of place_of cause_text
 
 abbrev pub flags_cause : FlagsFault → List ℕ
 flags_cause (Length flags starts) = codes " flags " ++ (decimal flags ++ (codes " starts " ++ decimal starts))
@@ -63,4 +68,4 @@ flags_cause (Starts starts) = codes " starts " ++ decimal starts
 flags_cause (Start member) = codes " member " ++ decimal member
 
 abbrev pub flags_fault_text : FlagsFault → List ℕ
-flags_fault_text f = codes "refused " ++ (decimal (flags.number_of f) ++ (codes " " ++ (place_text (flags.place_of f) ++ flags_cause f)))
+flags_fault_text = refusal_text flags.number_of flags.place_of flags_cause

@@ -1,123 +1,117 @@
 // Refusals as text: number, place, and what each carries.
-ghost use Rattle.std.specs.Prelude.{Some};
-ghost use Rattle.answer_text.specs.Faults.{cause_text, command_cause, fault_text, flags_cause, flags_fault_text, port_cause, set_up_cause, start_cause};
+ghost use Rattle.std.specs.Prelude.{◌≡◌, ℕ, List, Some};
+ghost use Rattle.std.specs.Fmt.{WritesOnOk};
+ghost use Rattle.answer_text.specs.Faults.{cause_text, command_cause, fault_text, flags_cause, flags_fault_text, port_cause, refusal_text, set_up_cause, start_cause, table_cause};
+ghost use Rattle.flags.specs.declared.faults.FlagsFault.{FlagsFault};
+ghost use Rattle.life.specs.declared.faults.Fault.{Fault};
 
-use crate::small::place_text;
 use flags::FlagsFault;
 use life::Fault;
 use ports::PortFault;
 use processor::CommandFault;
 use registers::{SetUpFault, StartFault};
 use std::fmt;
-use table::TableFault;
+use table::{Refusal, TableFault};
 
+// A refusal that writes what it carries: a space before each word, or nothing. Its types are other
+// crates', so it cannot be their `Display`.
+pub trait Cause: Refusal {
+    ghost cause: { Self → List ℕ };
+
+    fn write_cause<W: fmt::Write>(self, f: &mut fmt::Formatter<W>) -> fmt::Result
+        ensures writes { WritesOnOk W.write_str_gives f.old result (cause self) f.new };
+}
+
+// The text of any refusal.
 #[derive(Clone, Copy)]
-pub struct FaultText(pub Fault);
+pub struct FaultText<F>(pub F);
 
-#[derive(Clone, Copy)]
-pub struct FlagsFaultText(pub FlagsFault);
-
-#[derive(Clone, Copy)]
-struct CommandCause(CommandFault);
-
-#[derive(Clone, Copy)]
-struct SetUpCause(SetUpFault);
-
-#[derive(Clone, Copy)]
-struct StartCause(StartFault);
-
-#[derive(Clone, Copy)]
-struct PortCause(PortFault);
-
-#[derive(Clone, Copy)]
-struct Cause(Fault);
-
-#[derive(Clone, Copy)]
-struct FlagsCause(FlagsFault);
-
-impl fmt::Display for CommandCause {
-    ghost output = { λ x. Some (command_cause x.0) };
+impl<F: Cause> fmt::Display for FaultText<F> {
+    ghost output = { λ x. Some (refusal_text F.numbered F.found_at F.cause x.0) };
 
     fn fmt<W: fmt::Write>(&self, f: &mut fmt::Formatter<W>) -> fmt::Result {
-        match self.0 {
-            CommandFault::NoHitAddress => write!(f, ""),
-            CommandFault::NoEmptyAddress => write!(f, ""),
-            CommandFault::InTable(TableFault::Row(row)) => write!(f, " row {row}"),
-            CommandFault::InTable(TableFault::Segment(segment)) => write!(f, " segment {segment}"),
+        write!(f, "refused {} {}", self.0.number(), self.0.place())?;
+        self.0.write_cause(f)
+    }
+}
+
+impl Cause for TableFault {
+    ghost cause = { table_cause };
+
+    fn write_cause<W: fmt::Write>(self, f: &mut fmt::Formatter<W>) -> fmt::Result {
+        match self {
+            TableFault::Row(row) => write!(f, " row {row}"),
+            TableFault::Segment(segment) => write!(f, " segment {segment}"),
         }
     }
 }
 
-impl fmt::Display for SetUpCause {
-    ghost output = { λ x. Some (set_up_cause x.0) };
+impl Cause for CommandFault {
+    ghost cause = { command_cause };
 
-    fn fmt<W: fmt::Write>(&self, f: &mut fmt::Formatter<W>) -> fmt::Result {
-        match self.0 {
+    fn write_cause<W: fmt::Write>(self, f: &mut fmt::Formatter<W>) -> fmt::Result {
+        match self {
+            CommandFault::NoHitAddress | CommandFault::NoEmptyAddress => Ok(()),
+            CommandFault::InTable(fault) => fault.write_cause(f),
+        }
+    }
+}
+
+impl Cause for SetUpFault {
+    ghost cause = { set_up_cause };
+
+    fn write_cause<W: fmt::Write>(self, f: &mut fmt::Formatter<W>) -> fmt::Result {
+        match self {
             SetUpFault::OutOfRange(number) => write!(f, " number {number}"),
-            SetUpFault::SequenceOpen => write!(f, ""),
+            SetUpFault::SequenceOpen => Ok(()),
         }
     }
 }
 
-impl fmt::Display for StartCause {
-    ghost output = { λ x. Some (start_cause x.0) };
+impl Cause for StartFault {
+    ghost cause = { start_cause };
 
-    fn fmt<W: fmt::Write>(&self, f: &mut fmt::Formatter<W>) -> fmt::Result {
-        match self.0 {
+    fn write_cause<W: fmt::Write>(self, f: &mut fmt::Formatter<W>) -> fmt::Result {
+        match self {
             StartFault::OutOfRange(number) => write!(f, " number {number}"),
-            StartFault::NoHead => write!(f, ""),
-            StartFault::NoEnd => write!(f, ""),
+            StartFault::NoHead | StartFault::NoEnd => Ok(()),
         }
     }
 }
 
-impl fmt::Display for PortCause {
-    ghost output = { λ x. Some (port_cause x.0) };
+impl Cause for PortFault {
+    ghost cause = { port_cause };
 
-    fn fmt<W: fmt::Write>(&self, f: &mut fmt::Formatter<W>) -> fmt::Result {
-        match self.0 {
-            PortFault::NotStarted => write!(f, ""),
-            PortFault::HasEnded => write!(f, ""),
-            PortFault::TooWide(step) => write!(f, " step {step}"),
-            PortFault::BlocksGone(step) => write!(f, " step {step}"),
+    fn write_cause<W: fmt::Write>(self, f: &mut fmt::Formatter<W>) -> fmt::Result {
+        match self {
+            PortFault::NotStarted | PortFault::HasEnded => Ok(()),
+            PortFault::TooWide(step) | PortFault::BlocksGone(step) => write!(f, " step {step}"),
             PortFault::InCommand(at) => {
-                let step = at.step;
-                let cause = CommandCause(at.fault);
-                write!(f, " step {step}{cause}")
+                write!(f, " step {}", at.step)?;
+                at.fault.write_cause(f)
             }
         }
     }
 }
 
-impl fmt::Display for Cause {
-    ghost output = { λ x. Some (cause_text x.0) };
+impl Cause for Fault {
+    ghost cause = { cause_text };
 
-    fn fmt<W: fmt::Write>(&self, f: &mut fmt::Formatter<W>) -> fmt::Result {
-        match self.0 {
-            Fault::Command(fault) => CommandCause(fault).fmt(f),
-            Fault::SetUp(fault) => SetUpCause(fault).fmt(f),
-            Fault::Start(fault) => StartCause(fault).fmt(f),
-            Fault::Port(fault) => PortCause(fault).fmt(f),
+    fn write_cause<W: fmt::Write>(self, f: &mut fmt::Formatter<W>) -> fmt::Result {
+        match self {
+            Fault::Command(fault) => fault.write_cause(f),
+            Fault::SetUp(fault) => fault.write_cause(f),
+            Fault::Start(fault) => fault.write_cause(f),
+            Fault::Port(fault) => fault.write_cause(f),
         }
     }
 }
 
-impl fmt::Display for FaultText {
-    ghost output = { λ x. Some (fault_text x.0) };
+impl Cause for FlagsFault {
+    ghost cause = { flags_cause };
 
-    fn fmt<W: fmt::Write>(&self, f: &mut fmt::Formatter<W>) -> fmt::Result {
-        let number = self.0.number();
-        let place = place_text(self.0.place());
-        let cause = Cause(self.0);
-        write!(f, "refused {number} {place}{cause}")
-    }
-}
-
-impl fmt::Display for FlagsCause {
-    ghost output = { λ x. Some (flags_cause x.0) };
-
-    fn fmt<W: fmt::Write>(&self, f: &mut fmt::Formatter<W>) -> fmt::Result {
-        match self.0 {
+    fn write_cause<W: fmt::Write>(self, f: &mut fmt::Formatter<W>) -> fmt::Result {
+        match self {
             FlagsFault::Length(flags, starts) => write!(f, " flags {flags} starts {starts}"),
             FlagsFault::Starts(starts) => write!(f, " starts {starts}"),
             FlagsFault::Start(member) => write!(f, " member {member}"),
@@ -125,13 +119,8 @@ impl fmt::Display for FlagsCause {
     }
 }
 
-impl fmt::Display for FlagsFaultText {
-    ghost output = { λ x. Some (flags_fault_text x.0) };
-
-    fn fmt<W: fmt::Write>(&self, f: &mut fmt::Formatter<W>) -> fmt::Result {
-        let number = self.0.number();
-        let place = place_text(self.0.place());
-        let cause = FlagsCause(self.0);
-        write!(f, "refused {number} {place}{cause}")
-    }
-}
+// What the one text of refusals says of a processor's calls and of the flags.
+pub fn refusal_texts()
+    ensures calls { (fault : Fault) → ⟦<FaultText<Fault> as fmt::Display>⟧.output (record { 0 = fault }) ≡ Some (fault_text fault) }
+    ensures flags { (fault : FlagsFault) → ⟦<FaultText<FlagsFault> as fmt::Display>⟧.output (record { 0 = fault }) ≡ Some (flags_fault_text fault) }
+{}

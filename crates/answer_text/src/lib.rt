@@ -1,12 +1,12 @@
 // Answers of a processor and of a table's questions as text.
 #![tactic(auto)]
 
+mod addresses;
 mod answers;
 mod faults;
 mod members;
-mod small;
 
-pub use answers::AnswerText;
-pub use faults::{FaultText, FlagsFaultText};
+pub use addresses::AddressText;
+pub use answers::{AnswerText, ReplyText};
+pub use faults::{Cause, FaultText, refusal_texts};
 pub use members::{FullText, HitText};
-pub use small::{AddressText, MarksText};

@@ -1,4 +1,4 @@
-// Flags of members as text.
+// Flags of members as text, in types of their own: the program has other words for them.
 ghost use Rattle.std.specs.Prelude.{Some};
 ghost use Rattle.answer_text.specs.Flags.{full_text, hit_text};
 
@@ -16,7 +16,7 @@ impl fmt::Display for HitText {
 
     fn fmt<W: fmt::Write>(&self, f: &mut fmt::Formatter<W>) -> fmt::Result {
         match self.0 {
-            HitFlag::None => write!(f, "none"),
+            HitFlag::None => f.write_str("none"),
             HitFlag::One(row) => write!(f, "one {row}"),
             HitFlag::Several(row) => write!(f, "several {row}"),
         }
@@ -27,9 +27,9 @@ impl fmt::Display for FullText {
     ghost output = { λ x. Some (full_text x.0) };
 
     fn fmt<W: fmt::Write>(&self, f: &mut fmt::Formatter<W>) -> fmt::Result {
-        match self.0 {
-            FullFlag::Full => write!(f, "full"),
-            FullFlag::EmptyAt(row) => write!(f, "empty {row}"),
+        match self.0.first_empty {
+            None => f.write_str("full"),
+            Some(row) => write!(f, "empty {row}"),
         }
     }
 }

@@ -4,7 +4,7 @@ use registers::{
 };
 
 // One register. The blocks are named by a channel's number, a step by a channel's and its own.
-#[derive(Clone, Copy)]
+#[derive(Clone, Copy, PartialEq, Eq, Debug)]
 pub enum Register {
     HitAddress,
     EmptyAddress,
@@ -17,13 +17,13 @@ pub enum Register {
     Input,
     Output,
     Width,
-    Blocks(u32),
-    InputStep(u32, u32),
-    OutputStep(u32, u32),
+    Blocks { channel: u32 },
+    InputStep { channel: u32, step: u32 },
+    OutputStep { channel: u32, step: u32 },
 }
 
-// What a register holds; nothing, if there is no such channel or step.
-#[derive(Clone, Copy)]
+// What a register holds.
+#[derive(Clone, Copy, PartialEq, Eq, Debug)]
 pub enum Told {
     Address(Option<u32>),
     Flag(bool),
@@ -34,8 +34,7 @@ pub enum Told {
     Input(Sequence<InputPlace>),
     Output(Sequence<OutputPlace>),
     Width(BlockWidth),
-    Blocks(u64, u64),
+    Blocks { take: u64, start: u64 },
     InputStep(InputStep),
     OutputStep(OutputStep),
-    Nothing,
 }

@@ -1,60 +1,23 @@
 // What a register holds.
 ghost use Rattle.std.specs.Prelude.{◌≡◌};
-ghost use Rattle.register_text.specs.Told.{blocks_in, channel_numbered, input_step_in, output_step_in, told_in};
+ghost use Rattle.register_text.specs.Told.{set_up_in, told_in};
 
 use crate::names::{Register, Told};
-use registers::{Channel, Registers};
+use registers::{Channel, ChannelSetUp, Registers};
 
-fn channel_numbered(number: u32) -> Option<Channel>
-    ensures answer { result ≡ channel_numbered number }
+// The set-up of a channel by its number.
+fn set_up(registers: &Registers, channel: u32) -> Option<ChannelSetUp>
+    ensures answer { result ≡ set_up_in registers.now channel }
 {
-    match number {
-        0 => Some(Channel::A),
-        1 => Some(Channel::B),
-        _ => None,
-    }
+    let channel = Channel::try_from(channel).ok()?;
+    Some(registers.setup.of(channel))
 }
 
-fn input_step(registers: &Registers, channel: u32, step: u32) -> Told
-    ensures answer { result ≡ input_step_in registers.now channel step }
-{
-    match channel_numbered(channel) {
-        Some(channel) if step < 8 => {
-            let steps = registers.setup.of(channel).inputs;
-            Told::InputStep(steps[step as usize])
-        }
-        _ => Told::Nothing,
-    }
-}
-
-fn output_step(registers: &Registers, channel: u32, step: u32) -> Told
-    ensures answer { result ≡ output_step_in registers.now channel step }
-{
-    match channel_numbered(channel) {
-        Some(channel) if step < 8 => {
-            let steps = registers.setup.of(channel).outputs;
-            Told::OutputStep(steps[step as usize])
-        }
-        _ => Told::Nothing,
-    }
-}
-
-fn blocks(registers: &Registers, channel: u32) -> Told
-    ensures answer { result ≡ blocks_in registers.now channel }
-{
-    match channel_numbered(channel) {
-        Some(channel) => {
-            let setup = registers.setup.of(channel);
-            Told::Blocks(setup.take, setup.start)
-        }
-        None => Told::Nothing,
-    }
-}
-
-pub fn tell(registers: &Registers, register: Register) -> Told
+// What a register holds, if there is such a channel and step.
+pub fn tell(registers: &Registers, register: Register) -> Option<Told>
     ensures answer { result ≡ told_in registers.now register }
 {
-    match register {
+    Some(match register {
         Register::HitAddress => Told::Address(registers.found.address),
         Register::EmptyAddress => Told::Address(registers.empty),
         Register::Hit => Told::Flag(registers.found.hit),
@@ -66,8 +29,17 @@ pub fn tell(registers: &Registers, register: Register) -> Told
         Register::Input => Told::Input(registers.input.sequence),
         Register::Output => Told::Output(registers.output),
         Register::Width => Told::Width(registers.setup.width),
-        Register::Blocks(channel) => blocks(registers, channel),
-        Register::InputStep(channel, step) => input_step(registers, channel, step),
-        Register::OutputStep(channel, step) => output_step(registers, channel, step),
-    }
+        Register::Blocks { channel } => {
+            let ChannelSetUp { take, start, .. } = set_up(registers, channel)?;
+            Told::Blocks { take, start }
+        }
+        Register::InputStep { channel, step } => {
+            let steps = set_up(registers, channel)?.inputs;
+            Told::InputStep(*steps.get(step as usize)?)
+        }
+        Register::OutputStep { channel, step } => {
+            let steps = set_up(registers, channel)?.outputs;
+            Told::OutputStep(*steps.get(step as usize)?)
+        }
+    })
 }

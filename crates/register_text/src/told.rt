@@ -1,46 +1,49 @@
 // What a register holds as text.
 ghost use Rattle.std.specs.Prelude.{Some};
-ghost use Rattle.register_text.specs.ToldTexts.{told_text};
+ghost use Rattle.register_text.specs.ToldTexts.{said_text, told_text};
 
 use crate::names::Told;
-use crate::parts::{
-    HitsText, InputStepText, InputText, KeysText, OutputStepText, OutputText, channel_text,
-    flag_text, width_text,
-};
+use crate::parts::Part;
 use answer_text::AddressText;
+use call_text::{InputStepText, OutputStepText};
 use std::fmt;
 use std::fmt::Display;
-use tokens::{Hex, LongHex};
+use tokens::Hex;
 
+impl fmt::Display for Told {
+    ghost output = { λ x. Some (told_text x) };
+
+    fn fmt<W: fmt::Write>(&self, f: &mut fmt::Formatter<W>) -> fmt::Result {
+        match *self {
+            Told::Address(address) => AddressText(address).fmt(f),
+            Told::Flag(set) => f.write_str(if set { "yes" } else { "no" }),
+            Told::Channel(channel) => channel.fmt(f),
+            Told::Keys(keys) => keys.write_part(f),
+            Told::StepHits(hits) => hits.write_part(f),
+            Told::Buffers(buffers) => {
+                write!(f, "{} {}", Hex(buffers.accumulation), Hex(buffers.sub))
+            }
+            Told::Input(sequence) => sequence.fmt(f),
+            Told::Output(sequence) => sequence.fmt(f),
+            Told::Width(width) => width.fmt(f),
+            Told::Blocks { take, start } => write!(f, "{} {}", Hex(take), Hex(start)),
+            Told::InputStep(step) => InputStepText(step).fmt(f),
+            Told::OutputStep(step) => OutputStepText(step).fmt(f),
+        }
+    }
+}
+
+// What a register holds, or `nothing` where there is no such register.
 #[derive(Clone, Copy)]
-pub struct ToldText(pub Told);
+pub struct ToldText(pub Option<Told>);
 
 impl fmt::Display for ToldText {
-    ghost output = { λ x. Some (told_text x.0) };
+    ghost output = { λ x. Some (said_text x.0) };
 
     fn fmt<W: fmt::Write>(&self, f: &mut fmt::Formatter<W>) -> fmt::Result {
         match self.0 {
-            Told::Address(address) => AddressText(address).fmt(f),
-            Told::Flag(set) => write!(f, "{}", flag_text(set)),
-            Told::Channel(channel) => write!(f, "{}", channel_text(channel)),
-            Told::Keys(keys) => KeysText(keys).fmt(f),
-            Told::StepHits(hits) => HitsText(hits).fmt(f),
-            Told::Buffers(buffers) => {
-                let accumulation = Hex(buffers.accumulation);
-                let sub = Hex(buffers.sub);
-                write!(f, "{accumulation} {sub}")
-            }
-            Told::Input(sequence) => InputText(sequence).fmt(f),
-            Told::Output(sequence) => OutputText(sequence).fmt(f),
-            Told::Width(width) => write!(f, "{}", width_text(width)),
-            Told::Blocks(take, start) => {
-                let take = LongHex(take);
-                let start = LongHex(start);
-                write!(f, "{take} {start}")
-            }
-            Told::InputStep(step) => InputStepText(step).fmt(f),
-            Told::OutputStep(step) => OutputStepText(step).fmt(f),
-            Told::Nothing => write!(f, "nothing"),
+            Some(told) => told.fmt(f),
+            None => f.write_str("nothing"),
         }
     }
 }
