@@ -1,2 +1,4 @@
+pub mod Calls
 pub mod Memory
+pub mod Places
 pub mod Vacant

@@ -1,5 +1,5 @@
 -- What work comes to depends on how much memory there is, not on which. Assumes nothing.
-use Rattle.std.proofs.Common.{◌≡◌, ℕ, ◌≤◌, true, List, subst, arith}
+use Rattle.std.proofs.Common.{◌≡◌, ℕ, ◌≤◌, Bool, true, false, nat_eq, List, subst, arith}
 use Rattle.std.proofs.lemmas.Bool.Decides.{nat_tests as tells}
 use Rattle.cascade.specs.Cascades.{PlacesTold, countable}
 use Rattle.cascade.specs.declared.plans.Seat.{Seat}
@@ -10,5 +10,5 @@ pub places_told : {Out : Type 0} (tells : ℕ → ℕ → List Row → List Row 
 places_told tells width rows seats places k n m r p q h =
     subst (λ (y : ℕ). PlacesTold tells width rows seats places k y r) q (subst (λ (x : ℕ). PlacesTold tells width rows seats places x m r) p h)
 
-pub countable-within : (n : ℕ) → 1 ≤ n → n ≤ 32 → countable n ≡ true
-countable-within n h k = grind (arith, tells)
+pub countable-within : (n : ℕ) (empty : Bool) → empty ≡ nat_eq n 0 → empty ≡ false → n ≤ 32 → countable n ≡ true
+countable-within n empty e some within = grind (arith, tells)

@@ -1,6 +1,8 @@
 -- What is built for the seats of a cascade: its width and its rows, from the seats and from how many
 -- words n and mark bytes m there are. Assumes nothing.
 --   seat_in                 the first seat; a missing one is vacant
+--   opened_width, -Rows     a device of a width, as it opens
+--   at_seat                 what is opened at the width that the first seat asks for
 --   device_width, -Rows     a device of the seat's width, as it opens
 --   planes_rows             a bit-plane table's rows, as it opens; it has two segments
 --   member_width, -Rows     whichever of these the seat asks for, or nothing
@@ -26,11 +28,20 @@ width_asked (Device w) = w
 width_asked Planes = 0
 width_asked Vacant = 0
 
+abbrev pub opened_width : ℕ → ℕ → ℕ → ℕ
+opened_width w n m = granted (checked w n m) w 1
+
+abbrev pub opened_rows : ℕ → ℕ → ℕ → List Row
+opened_rows w n m = granted (checked w n m) (replicate (depth_at w) (new_row w)) []
+
+abbrev pub at_seat : {X : Type 0} → (ℕ → ℕ → ℕ → X) → List Seat → ℕ → ℕ → X
+at_seat opened seats n m = opened (width_asked (seat_in seats).kind) n m
+
 abbrev pub device_width : List Seat → ℕ → ℕ → ℕ
-device_width seats n m = granted (checked (width_asked (seat_in seats).kind) n m) (width_asked (seat_in seats).kind) 1
+device_width = at_seat opened_width
 
 abbrev pub device_rows : List Seat → ℕ → ℕ → List Row
-device_rows seats n m = granted (checked (width_asked (seat_in seats).kind) n m) (replicate (depth_at (width_asked (seat_in seats).kind)) (new_row (width_asked (seat_in seats).kind))) []
+device_rows = at_seat opened_rows
 
 abbrev pub planes_rows : List Row
 planes_rows = replicate 64 (new_row 2)

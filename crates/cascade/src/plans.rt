@@ -4,7 +4,8 @@ ghost use Rattle.cascade.specs.declared.plans.CascadeFault.TheVariants.{NoMemory
 
 use std::alloc::AllocError;
 
-// A device of a width, a bit-plane table, or nothing.
+// A device of a width, a bit-plane table, or nothing: a caller may ask for a vacant member, so that it is
+// a kind and no missing one.
 #[derive(Clone, Copy)]
 pub enum Kind {
     Device(u32),

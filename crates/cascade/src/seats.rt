@@ -1,59 +1,55 @@
 // Tables that are built over lent memory, seat by seat.
 ghost use Rattle.std.specs.Prelude.{◌≡◌, ℕ, ◌-◌, ◌/◌, List, length};
-ghost use Rattle.cascade.specs.Seats.{device_rows, device_width, fenced_rows, member_rows, member_width, pair_rows, pair_width, planes_rows, seat_in};
+ghost use Rattle.cascade.specs.Seats.{at_seat, fenced_rows, member_rows, member_width, opened_rows, opened_width, pair_rows, pair_width, planes_rows};
 ghost use Rattle.cascade.specs.declared.plans.Seat.{Seat};
 ghost use Rattle.table.specs.Row.{Row};
 
 use crate::members::Member;
 use crate::plans::{Kind, Seat};
-use device::Device;
+use crate::sites::{Lot, Site};
+use device::{Cells, Device};
 use fence::Fence;
 use join::Join;
 use planes::Planes;
 use table::Table;
 
-// A table that is built for some seats, over words and mark bytes.
-pub trait Build<'a>: Table + Sized {
-    // The width and the rows of what is built, from the seats and how much memory there is.
+// A table that is built for some seats, over cells that are lent.
+pub trait Build<S: Lot>: Table + Sized {
+    // The width and the rows of what is built, from the seats and how many cells there are.
     ghost built_width: { List Seat → ℕ → ℕ → ℕ };
 
     ghost built_rows: { List Seat → ℕ → ℕ → List Row };
 
-    fn build(words: &'a mut [u32], marks: &'a mut [u8], seats: &[Seat]) -> Self
-        ensures width { Self.Table.width result ≡ built_width seats.now (length words.old) (length marks.old) }
-        ensures rows { Self.Table.rows result ≡ built_rows seats.now (length words.old) (length marks.old) };
+    fn build(site: S) -> Self
+        ensures width { Self.Table.width result ≡ built_width (S.Lot.seats site) (S.Lot.words site) (S.Lot.bytes site) }
+        ensures rows { Self.Table.rows result ≡ built_rows (S.Lot.seats site) (S.Lot.words site) (S.Lot.bytes site) };
 }
 
-// The first of some seats; where there is none, it is vacant.
-fn first_seat(seats: &[Seat]) -> Seat
-    ensures answer { result ≡ seat_in seats.now }
-{
-    if seats.len() > 0 {
-        seats[0]
-    } else {
-        Seat {
-            kind: Kind::Vacant,
-            hidden: 0,
-        }
-    }
+// A table of a width, over cells that are lent.
+pub trait Lent<'a>: Table + Sized {
+    // The width and the rows, from the width asked for and how many cells there are.
+    ghost lent_width: { ℕ → ℕ → ℕ → ℕ };
+
+    ghost lent_rows: { ℕ → ℕ → ℕ → List Row };
+
+    fn over(width: u32, cells: Cells<'a>) -> Self
+        ensures width { Self.Table.width result ≡ lent_width width (length cells.entry.words.now) (length cells.entry.marks.now) }
+        ensures rows { Self.Table.rows result ≡ lent_rows width (length cells.entry.words.now) (length cells.entry.marks.now) };
 }
 
-impl<'a> Build<'a> for Device<'a> {
-    ghost built_width = { device_width };
+impl<'a> Lent<'a> for Device<'a> {
+    ghost lent_width = { opened_width };
 
-    ghost built_rows = { device_rows };
+    ghost lent_rows = { opened_rows };
 
-    fn build(words: &'a mut [u32], marks: &'a mut [u8], seats: &[Seat]) -> Device<'a> {
-        let width = match first_seat(seats).kind {
-            Kind::Device(width) => width,
-            Kind::Planes => 0,
-            Kind::Vacant => 0,
-        };
+    fn over(width: u32, cells: Cells<'a>) -> Device<'a> {
+        let Cells { words, marks } = cells;
         Device::open(width, words, marks)
     }
 }
 
-// A table with memory of its own, which opens in one way only.
+// A table with memory of its own, which opens in one way only: `Planes` so far. A trait, so that a
+// member is built, as it is a table, over any two kinds.
 pub trait Fresh: Table + Sized {
     ghost fresh_width: { ℕ };
 
@@ -74,42 +70,38 @@ impl Fresh for Planes {
     }
 }
 
-impl<'a, D: Build<'a>, P: Fresh> Build<'a> for Member<D, P> {
-    ghost built_width = { member_width D.Build.built_width P.Fresh.fresh_width };
+impl<'a, 's, D: Lent<'a>, P: Fresh> Build<Site<'a, 's>> for Member<D, P> {
+    ghost built_width = { member_width (at_seat D.Lent.lent_width) P.Fresh.fresh_width };
 
-    ghost built_rows = { member_rows D.Build.built_rows P.Fresh.fresh_rows };
+    ghost built_rows = { member_rows (at_seat D.Lent.lent_rows) P.Fresh.fresh_rows };
 
-    fn build(words: &'a mut [u32], marks: &'a mut [u8], seats: &[Seat]) -> Member<D, P> {
-        match first_seat(seats).kind {
-            Kind::Device(_) => Member::Device(D::build(words, marks, seats)),
+    fn build(site: Site<'a, 's>) -> Member<D, P> {
+        match site.first().kind {
+            Kind::Device(width) => Member::Device(D::over(width, site.cells)),
             Kind::Planes => Member::Planes(P::fresh()),
             Kind::Vacant => Member::Vacant,
         }
     }
 }
 
-impl<'a, T: Build<'a>> Build<'a> for Fence<T> {
+impl<S: Lot, T: Build<S>> Build<S> for Fence<T> {
     ghost built_width = { T.Build.built_width };
 
     ghost built_rows = { fenced_rows T.Build.built_rows };
 
-    fn build(words: &'a mut [u32], marks: &'a mut [u8], seats: &[Seat]) -> Fence<T> {
-        Fence::new(first_seat(seats).hidden, T::build(words, marks, seats))
+    fn build(site: S) -> Fence<T> {
+        Fence::new(site.first().hidden, T::build(site))
     }
 }
 
 // Each half of the seats has half of the memory.
-impl<'a, U: Build<'a>, L: Build<'a>> Build<'a> for Join<U, L> {
+impl<S: Lot, U: Build<S>, L: Build<S>> Build<S> for Join<U, L> {
     ghost built_width = { pair_width U.Build.built_width L.Build.built_width };
 
     ghost built_rows = { pair_rows U.Build.built_width L.Build.built_width U.Build.built_rows L.Build.built_rows };
 
-    fn build(words: &'a mut [u32], marks: &'a mut [u8], seats: &[Seat]) -> Join<U, L> {
-        let middle = words.len() / 2;
-        let (above, below) = words.split_at_mut(middle);
-        let middle = marks.len() / 2;
-        let (over, under) = marks.split_at_mut(middle);
-        let (first, rest) = seats.split_at(seats.len() / 2);
-        Join::new(U::build(above, over, first), L::build(below, under, rest))
+    fn build(site: S) -> Join<U, L> {
+        let (upper, lower) = site.in_halves();
+        Join::new(U::build(upper), L::build(lower))
     }
 }

@@ -1,34 +1,35 @@
-// A member is a table, whichever it is.
+// A member is a table, whichever it is. Each call has three arms, since a `&dyn Table` of a table that
+// is a type parameter gets no proof yet.
 ghost use Rattle.cascade.specs.Members.{FrameOf, rows_of, width_of};
 ghost use Rattle.cascade.specs.Proved.{chain_of, same_of, sound_of};
 
 use crate::members::Member;
-use table::{Marking, Marks, Purge, Search, Shape, Table, TableFault};
+use table::{MAX_WIDTH, Marking, Marks, Purge, Search, Shape, Table, TableFault};
 
-// No table is wider.
-const MAX_WIDTH: u32 = 8;
+// The shape of a vacant member, which changes no join.
+const VACANT: Shape = Shape {
+    width: MAX_WIDTH,
+    depth: 0,
+};
 
 impl<D: Table, P: Table> Table for Member<D, P> {
-    ghost width = { width_of D.Table.width P.Table.width };
+    ghost width = { width_of D.Table P.Table };
 
-    ghost rows = { rows_of D.Table.rows P.Table.rows };
+    ghost rows = { rows_of D.Table P.Table };
 
-    ghost sound = { sound_of D.Table.width P.Table.width D.Table.rows P.Table.rows D.Table.sound P.Table.sound };
+    ghost sound = { sound_of D.Table P.Table };
 
-    ghost frame = { FrameOf D.Table.frame P.Table.frame };
+    ghost frame = { FrameOf D.Table P.Table };
 
-    ghost same = { same_of D.Table.frame P.Table.frame D.Table.same P.Table.same };
+    ghost same = { same_of D.Table P.Table };
 
-    ghost chain = { chain_of D.Table.frame P.Table.frame D.Table.chain P.Table.chain };
+    ghost chain = { chain_of D.Table P.Table };
 
     fn shape(&self) -> Shape {
         match self {
             Member::Device(table) => table.shape(),
             Member::Planes(table) => table.shape(),
-            Member::Vacant => Shape {
-                width: MAX_WIDTH,
-                depth: 0,
-            },
+            Member::Vacant => VACANT,
         }
     }
 
@@ -68,13 +69,7 @@ impl<D: Table, P: Table> Table for Member<D, P> {
         match self {
             Member::Device(table) => table.search(query),
             Member::Planes(table) => table.search(query),
-            Member::Vacant => {
-                if query.segment < MAX_WIDTH {
-                    Ok(())
-                } else {
-                    Err(TableFault::Segment(query.segment))
-                }
-            }
+            Member::Vacant => VACANT.check_segment(query.segment),
         }
     }
 

@@ -1,6 +1,6 @@
 // The head of a listing: its members in order, and a fence over all.
 use cascade::{Kind, Seat};
-use tokens::{Expected, TextFault, next_word, number_32};
+use tokens::{Cursor, Expected, TextFault};
 
 // A member, or the fence over all members.
 #[derive(Clone, Copy)]
@@ -9,35 +9,48 @@ pub enum HeadLine {
     Fence(u32),
 }
 
-// A fence behind a member, if one is named from `at` on, and the place behind it.
-fn fence(line: &[u8], at: usize) -> Result<(u32, usize), TextFault> {
-    let word = next_word(line, at);
-    if word.is(b"fence") {
-        number_32(line, word.end)
-    } else {
-        Ok((0, at))
+fn width(rest: &mut Cursor) -> Result<u32, TextFault> {
+    let word = rest.next_word();
+    match rest.number()? {
+        width @ 1..=8 => Ok(width),
+        _ => Err(word.fault(Expected::Width)),
     }
 }
 
-// The member or the fence that a line of the head names, and the place behind it; nothing, if the line
-// names neither, so that the head has ended.
-pub fn read_head_line(line: &[u8], at: usize) -> Result<Option<(HeadLine, usize)>, TextFault> {
-    let word = next_word(line, at);
-    if word.is(b"fence") {
-        let (hidden, end) = number_32(line, word.end)?;
-        return Ok(Some((HeadLine::Fence(hidden), end)));
+// How many rows a fence behind a member hides: none, if no fence is named next.
+fn fence(rest: &mut Cursor) -> Result<u32, TextFault> {
+    let word = rest.next_word();
+    if !word.is(b"fence") {
+        return Ok(0);
     }
-    let (kind, end) = if word.is(b"device") {
-        let (width, end) = number_32(line, word.end)?;
-        if width < 1 || width > 8 {
-            return Err(next_word(line, word.end).fault(Expected::Width));
-        }
-        (Kind::Device(width), end)
-    } else if word.is(b"planes") {
-        (Kind::Planes, word.end)
-    } else {
-        return Ok(None);
+    rest.at = word.end;
+    rest.number()
+}
+
+// The member or the fence that a line of the head names; nothing, if the line names neither, so that
+// the head has ended. Then and after a fault the place is the old one.
+pub fn read_head_line(rest: &mut Cursor) -> Result<Option<HeadLine>, TextFault> {
+    let word = rest.next_word();
+    let mut parts = Cursor {
+        at: word.end,
+        ..*rest
     };
-    let (hidden, end) = fence(line, end)?;
-    Ok(Some((HeadLine::Member(Seat { kind, hidden }), end)))
+    let line = match word.text {
+        b"fence" => HeadLine::Fence(parts.number()?),
+        b"device" => {
+            let kind = Kind::Device(width(&mut parts)?);
+            let hidden = fence(&mut parts)?;
+            HeadLine::Member(Seat { kind, hidden })
+        }
+        b"planes" => {
+            let hidden = fence(&mut parts)?;
+            HeadLine::Member(Seat {
+                kind: Kind::Planes,
+                hidden,
+            })
+        }
+        _ => return Ok(None),
+    };
+    rest.at = parts.at;
+    Ok(Some(line))
 }

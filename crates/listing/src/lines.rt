@@ -3,134 +3,111 @@ use crate::asks::{Ask, FlagName, Line};
 use crate::names::register;
 use call_text::read_call;
 use life::{Call, WalkCall};
-use tokens::{Expected, TextFault, next_word, number_32, word_start};
+use tokens::{Cursor, Expected, TextFault};
 
 // Where a line's text begins: a record's line number, digits and a colon, is passed over.
-pub(crate) fn text_start(line: &[u8]) -> usize {
-    let word = next_word(line, 0);
-    let [digits @ .., b':'] = word.text else {
-        return word.start;
+pub(crate) fn text_start(line: &[u8]) -> Cursor<'_> {
+    let mut start = Cursor { line, at: 0 };
+    let word = start.next_word();
+    if let [digits @ .., b':'] = word.text
+        && digits.iter().all(|byte| byte.is_ascii_digit())
+    {
+        start.at = word.end;
+    }
+    start.at = start.word_start();
+    start
+}
+
+// Whether nothing but a comment is left.
+pub(crate) fn is_end(rest: Cursor) -> bool {
+    matches!(rest.line.get(rest.word_start()), None | Some(b'#'))
+}
+
+// A fault where more than a comment is left.
+pub(crate) fn end(rest: Cursor) -> Result<(), TextFault> {
+    if is_end(rest) {
+        return Ok(());
+    }
+    Err(rest.next_word().fault(Expected::End))
+}
+
+fn flags<'a>(rest: &mut Cursor<'a>) -> Result<Ask<'a>, TextFault> {
+    let word = rest.next_word();
+    let kind = match word.text {
+        b"hit" => FlagName::Hit,
+        b"full" => FlagName::Full,
+        _ => return Err(word.fault(Expected::FlagKind)),
     };
-    for byte in digits {
-        if !byte.is_ascii_digit() {
-            return word.start;
-        }
+    rest.at = word.end;
+    let starts = *rest;
+    for word in starts.words() {
+        word.number::<u32>()?;
+        rest.at = word.end;
     }
-    word_start(line, word.end)
+    Ok(Ask::Flags { kind, starts })
 }
 
-// Whether nothing but a comment stands from `at` on.
-pub(crate) fn is_end(line: &[u8], at: usize) -> bool {
-    match line.get(word_start(line, at)) {
-        None => true,
-        Some(byte) => *byte == b'#',
-    }
-}
-
-// Where the numbers end that stand from `at` on.
-fn numbers_end(line: &[u8], at: usize) -> Result<usize, TextFault> {
-    let mut end = at;
-    for _ in 0..line.len() {
-        if next_word(line, end).text.is_empty() {
-            break;
-        }
-        let (_, next) = number_32(line, end)?;
-        end = next;
-    }
-    Ok(end)
-}
-
-fn flags(line: &[u8], at: usize) -> Result<(Ask, usize), TextFault> {
-    let word = next_word(line, at);
-    let kind = if word.is(b"hit") {
-        FlagName::Hit
-    } else if word.is(b"full") {
-        FlagName::Full
+fn rows<'a>(rest: &mut Cursor<'a>) -> Result<Ask<'a>, TextFault> {
+    let from = rest.number()?;
+    let count = if rest.next_word().text.is_empty() {
+        None
     } else {
-        return Err(word.fault(Expected::FlagKind));
+        Some(rest.number()?)
     };
-    let end = numbers_end(line, word.end)?;
-    Ok((
-        Ask::Flags {
-            kind,
-            starts: word.end,
-        },
-        end,
-    ))
+    Ok(Ask::Rows { from, count })
 }
 
-fn rows(line: &[u8], at: usize) -> Result<(Ask, usize), TextFault> {
-    let (from, end) = number_32(line, at)?;
-    if next_word(line, end).text.is_empty() {
-        let count = u32::MAX;
-        return Ok((Ask::Rows { from, count }, end));
-    }
-    let (count, end) = number_32(line, end)?;
-    Ok((Ask::Rows { from, count }, end))
+fn ask<'a>(rest: &mut Cursor<'a>) -> Result<Ask<'a>, TextFault> {
+    let word = rest.next_word();
+    let mut parts = Cursor {
+        at: word.end,
+        ..*rest
+    };
+    let ask = match word.text {
+        b"row" => Ask::Row(parts.number()?),
+        b"rows" => rows(&mut parts)?,
+        b"tell" => Ask::Register(register(&mut parts)?),
+        b"flags" => flags(&mut parts)?,
+        _ => return Ok(Ask::Call(read_call(rest)?)),
+    };
+    rest.at = parts.at;
+    Ok(ask)
 }
 
-// What is asked from `at` on, and the place behind it.
-fn ask(line: &[u8], at: usize) -> Result<(Ask, usize), TextFault> {
-    let word = next_word(line, at);
-    if word.is(b"row") {
-        let (row, end) = number_32(line, word.end)?;
-        return Ok((Ask::Row(row), end));
-    }
-    if word.is(b"rows") {
-        return rows(line, word.end);
-    }
-    if word.is(b"tell") {
-        let (register, end) = register(line, word.end)?;
-        return Ok((Ask::Register(register), end));
-    }
-    if word.is(b"flags") {
-        return flags(line, word.end);
-    }
-    let (call, end) = read_call(line, at)?;
-    Ok((Ask::Call(call), end))
-}
-
-// The place of the answer that follows an `=` from `at` on, if there is one.
-fn answer(line: &[u8], at: usize) -> Result<Option<usize>, TextFault> {
-    let start = word_start(line, at);
-    match line.get(start) {
-        None => Ok(None),
-        Some(b'#') => Ok(None),
+// The answer that follows an `=`, if there is one.
+fn answer(rest: Cursor<'_>) -> Result<Option<&[u8]>, TextFault> {
+    let start = rest.word_start();
+    match rest.line.get(start) {
+        None | Some(b'#') => Ok(None),
         Some(b'=') => {
-            let word = next_word(line, start.saturating_add(1));
+            let at = start.saturating_add(1);
+            let word = Cursor { at, ..rest }.next_word();
             if word.text.is_empty() {
                 return Err(word.fault(Expected::Answer));
             }
-            Ok(Some(word.start))
+            Ok(rest.line.get(word.start..))
         }
-        Some(_) => Err(TextFault {
-            at: start,
-            expected: Expected::AnswerOrEnd,
-        }),
+        Some(_) => Err(rest.next_word().fault(Expected::AnswerOrEnd)),
     }
 }
 
 // What takes several lines of a record has no answer in a listing.
 fn takes_lines(ask: Ask) -> bool {
-    match ask {
-        Ask::Call(Call::OnWalk(WalkCall::Registers)) => true,
-        Ask::Rows { .. } => true,
-        _ => false,
-    }
+    matches!(
+        ask,
+        Ask::Call(Call::OnWalk(WalkCall::Registers)) | Ask::Rows { .. }
+    )
 }
 
-// Reads a line from `at` on; a blank line or a comment asks nothing.
-pub fn read_line(line: &[u8], at: usize) -> Result<Option<Line>, TextFault> {
-    if is_end(line, at) {
+// Reads what is left of a line; a blank line or a comment asks nothing.
+pub fn read_line(mut rest: Cursor<'_>) -> Result<Option<Line<'_>>, TextFault> {
+    if is_end(rest) {
         return Ok(None);
     }
-    let (ask, end) = ask(line, at)?;
-    if takes_lines(ask) && !is_end(line, end) {
-        return Err(TextFault {
-            at: word_start(line, end),
-            expected: Expected::End,
-        });
+    let ask = ask(&mut rest)?;
+    if takes_lines(ask) {
+        end(rest)?;
     }
-    let answer = answer(line, end)?;
+    let answer = answer(rest)?;
     Ok(Some(Line { ask, answer }))
 }

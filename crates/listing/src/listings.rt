@@ -1,146 +1,111 @@
 // A whole listing: its cascade, what it asks line by line, and the first line that cannot be read.
-ghost use Rattle.std.specs.Prelude.{◌≡◌};
-ghost use Rattle.listing.specs.Lines.{line_end};
-
 use crate::asks::Line;
 use crate::head::{HeadLine, read_head_line};
-use crate::lines::{is_end, read_line, text_start};
+use crate::lines::{end, is_end, read_line, text_start};
 use cascade::{MEMBERS, Seat};
 use std::alloc::{AllocError, Global};
-use tokens::{Expected, TextFault, word_start};
+use tokens::{Cursor, Expected, TextFault};
 
-// A line that asks something: its number, counted from 1, and where it stands in the text.
+// A line that asks something, and its number, counted from 1.
 #[derive(Clone, Copy)]
-pub struct Entry {
+pub struct Entry<'a> {
     pub number: usize,
-    pub from: usize,
-    pub to: usize,
-    pub line: Line,
+    pub line: Line<'a>,
 }
 
-// A line that cannot be read.
+// A line that cannot be read. Not one type with `Entry`: an entry is worked on, a fault is told.
 #[derive(Clone, Copy)]
 pub struct LineFault {
     pub number: usize,
     pub fault: TextFault,
 }
 
+// The lines before a fault are kept, so the fault stands beside them, and reading is no `Result`.
 #[derive(Drop)]
-pub struct Listing {
+pub struct Listing<'a> {
     pub seats: Vec<Seat>,
     pub hidden: u32,
-    pub entries: Vec<Entry>,
+    pub entries: Vec<Entry<'a>>,
     pub fault: Option<LineFault>,
 }
 
 // What a line is, read at its place in a listing.
 #[derive(Clone, Copy)]
-enum Content {
-    Nothing,
+enum Content<'a> {
     Head(HeadLine),
-    Asks(Line),
+    Asks(Line<'a>),
 }
 
-// Where a line ends that begins at `from`.
-fn line_end(text: &[u8], from: usize) -> usize
-    ensures answer { result ≡ line_end text.now from }
-{
-    let mut end = from;
-    while end < text.len() && text[end] != b'\n' {
-        end += 1;
+// Whether a line of the head may stand behind so many members.
+fn may_stand(line: HeadLine, members: usize) -> Result<(), Expected> {
+    match line {
+        HeadLine::Member(_) if members >= MEMBERS => Err(Expected::Call),
+        HeadLine::Fence(_) if members == 0 => Err(Expected::Member),
+        _ => Ok(()),
     }
-    end
+}
+
+// A line behind the head.
+fn asked(rest: Cursor<'_>) -> Result<Option<Content<'_>>, TextFault> {
+    Ok(read_line(rest)?.map(Content::Asks))
 }
 
 // A line of the head, or the first that asks something.
-fn head_content(line: &[u8], at: usize, members: usize) -> Result<Content, TextFault> {
-    let Some((read, end)) = read_head_line(line, at)? else {
-        if members == 0 {
-            return Err(TextFault {
-                at,
-                expected: Expected::Member,
-            });
+fn head_content(mut rest: Cursor<'_>, members: usize) -> Result<Option<Content<'_>>, TextFault> {
+    let word = rest.next_word();
+    match read_head_line(&mut rest)? {
+        Some(line) => {
+            may_stand(line, members).map_err(|expected| word.fault(expected))?;
+            end(rest)?;
+            Ok(Some(Content::Head(line)))
         }
-        return asked(line, at);
-    };
-    let expected = match read {
-        HeadLine::Member(_) if members >= MEMBERS => Expected::Call,
-        HeadLine::Fence(_) if members == 0 => Expected::Member,
-        _ => Expected::End,
-    };
-    if expected != Expected::End {
-        return Err(TextFault { at, expected });
-    }
-    if !is_end(line, end) {
-        return Err(TextFault {
-            at: word_start(line, end),
-            expected,
-        });
-    }
-    Ok(Content::Head(read))
-}
-
-fn asked(line: &[u8], at: usize) -> Result<Content, TextFault> {
-    match read_line(line, at)? {
-        Some(line) => Ok(Content::Asks(line)),
-        None => Ok(Content::Nothing),
+        None if members == 0 => Err(word.fault(Expected::Member)),
+        None => asked(rest),
     }
 }
 
-fn read_content(line: &[u8], in_head: bool, members: usize) -> Result<Content, TextFault> {
-    let at = text_start(line);
-    if is_end(line, at) {
-        return Ok(Content::Nothing);
+// What a line is; nothing, if it is blank or a comment. `head` says how many members stand before it,
+// as long as the head goes on.
+fn read_content(line: &[u8], head: Option<usize>) -> Result<Option<Content<'_>>, TextFault> {
+    let rest = text_start(line);
+    if is_end(rest) {
+        return Ok(None);
     }
-    if in_head {
-        head_content(line, at, members)
-    } else {
-        asked(line, at)
+    match head {
+        Some(members) => head_content(rest, members),
+        None => asked(rest),
     }
 }
 
 // Reads a listing up to its end, or up to the first line that cannot be read.
-pub fn read_listing(heap: Global, text: &[u8]) -> Result<Listing, AllocError> {
-    let mut seats = Vec::new(heap);
-    let mut entries = Vec::new(heap);
-    let mut hidden = 0;
-    let mut in_head = true;
-    let mut fault = None;
-    let mut number: usize = 0;
-    let mut from = 0;
-    while from < text.len() {
-        let to = line_end(text, from);
-        number = number.saturating_add(1);
-        match read_content(&text[from..to], in_head, seats.len()) {
-            Ok(Content::Nothing) => {}
-            Ok(Content::Head(HeadLine::Member(seat))) => seats.push(seat)?,
-            Ok(Content::Head(HeadLine::Fence(rows))) => {
-                hidden = rows;
-                in_head = false;
+pub fn read_listing(heap: Global, text: &[u8]) -> Result<Listing<'_>, AllocError> {
+    let mut listing = Listing {
+        seats: Vec::new(heap),
+        hidden: 0,
+        entries: Vec::new(heap),
+        fault: None,
+    };
+    let mut head = Some(0);
+    for (number, line) in (1..).zip(text.split(|byte| *byte == b'\n')) {
+        match read_content(line, head) {
+            Ok(None) => {}
+            Ok(Some(Content::Head(HeadLine::Member(seat)))) => {
+                listing.seats.push(seat)?;
+                head = Some(listing.seats.len());
             }
-            Ok(Content::Asks(line)) => {
-                in_head = false;
-                entries.push(Entry {
-                    number,
-                    from,
-                    to,
-                    line,
-                })?;
+            Ok(Some(Content::Head(HeadLine::Fence(rows)))) => {
+                listing.hidden = rows;
+                head = None;
             }
-            Err(refused) => {
-                fault = Some(LineFault {
-                    number,
-                    fault: refused,
-                });
+            Ok(Some(Content::Asks(line))) => {
+                head = None;
+                listing.entries.push(Entry { number, line })?;
+            }
+            Err(fault) => {
+                listing.fault = Some(LineFault { number, fault });
                 break;
             }
         }
-        from = to.saturating_add(1);
     }
-    Ok(Listing {
-        seats,
-        hidden,
-        entries,
-        fault,
-    })
+    Ok(listing)
 }

@@ -1,12 +1,12 @@
 -- One line more of a listing: what it does to a processor is what the calls of it do. Assumes nothing.
-use Rattle.std.proofs.Common.{◌≡◌, ℕ, ◌+◌, ◌<◌, List, [], ◌∷◌, ◌++◌, length, get_or, take, append_assoc, sym, refl, ap, ◌∙◌}
+use Rattle.std.proofs.Common.{◌≡◌, ℕ, ◌+◌, ◌<◌, List, [], ◌∷◌, ◌++◌, length, get_or, take, append_assoc, refl, ap, ◌∙◌}
 use Rattle.life.specs.Meaning.{State, after, lived}
 use Rattle.life.specs.declared.calls.Call.{Call}
 use Rattle.listing.specs.declared.asks.Ask.{Ask}
 use Rattle.listing.specs.declared.asks.Ask.TheVariants.{Call as Work, Register, Row, Rows, Flags}
 use Rattle.listing.specs.declared.listings.Entry.{Entry}
 use Rattle.record.specs.Asks.{after_ask, call_in, calls_of}
-use Rattle.std.proofs.lemmas.List.{take_more}
+use Rattle.std.proofs.lemmas.List.{append-nil, take_more}
 
 lived-append : (s : State) (cs ds : List Call) → lived s (cs ++ ds) ≡ lived (lived s cs) ds
 unfolding lived
@@ -23,11 +23,7 @@ lived_ask s (Flags kind starts) = refl
 
 calls_of_push : (es : List Entry) (e : Entry) → calls_of (es ++ e ∷ []) ≡ calls_of es ++ call_in e.line.ask
 unfolding calls_of
-calls_of_push [] e = last (call_in e.line.ask)
-  where
-    last : (cs : List Call) → cs ++ [] ≡ cs
-    last [] = refl
-    last (c ∷ cs) = ap (λ xs. c ∷ xs) (last cs)
+calls_of_push [] e = append-nil (call_in e.line.ask)
 calls_of_push (d ∷ es) e = rw append_assoc (ap (λ xs. call_in d.line.ask ++ xs) (calls_of_push es e))
 
 pub asked_none : (s : State) (es : List Entry) → lived s (calls_of (take 0 es)) ≡ s

@@ -4,9 +4,7 @@ ghost use Rattle.life.specs.Meaning.{lived, state_of};
 ghost use Rattle.life.specs.Walks.{WalksComplete};
 ghost use Rattle.record.specs.Asks.{after_ask, calls_of};
 
-use crate::lines::{
-    Verdict, put_call, put_members, put_number, put_one_row, put_register, put_verdict,
-};
+use crate::lines::{Record, Verdict};
 use crate::lists::{put_registers, put_rows};
 use life::{Call, WalkCall};
 use listing::{Ask, Entry};
@@ -15,7 +13,7 @@ use std::alloc::{AllocError, Global};
 use table::Table;
 
 // How many lines asked something, how many of the listing's answers held, and how many did not.
-#[derive(Clone, Copy)]
+#[derive(Clone, Copy, Default)]
 pub struct Tally {
     pub asked: usize,
     pub held: usize,
@@ -23,64 +21,35 @@ pub struct Tally {
 }
 
 impl Tally {
-    fn count(&mut self, verdict: Verdict) {
+    fn count(&mut self, verdict: Option<Verdict>) {
         self.asked = self.asked.saturating_add(1);
         match verdict {
-            Verdict::NoAnswer => {}
-            Verdict::Held => self.held = self.held.saturating_add(1),
-            Verdict::Differs => self.differences = self.differences.saturating_add(1),
+            None => {}
+            Some(Verdict::Held) => self.held = self.held.saturating_add(1),
+            Some(Verdict::Differs) => self.differences = self.differences.saturating_add(1),
         }
     }
 }
 
-// Works one line that has one answer, and tells where the answer begins.
-fn put_asked<T: Table>(
-    heap: Global,
-    out: &mut String,
-    processor: &mut Processor<T>,
-    line: &[u8],
-    ask: Ask,
-) -> Result<usize, AllocError>
-    ensures state { OnOk result (state_of T.width T.rows processor.new.table processor.new.registers ≡ after_ask (state_of T.width T.rows processor.old.table processor.old.registers) ask) }
-{
-    match ask {
-        Ask::Call(call) => put_call(out, processor, call),
-        Ask::Register(register) => put_register(out, processor, register),
-        Ask::Row(row) => put_one_row(out, &processor.table, row),
-        Ask::Rows { from, .. } => put_one_row(out, &processor.table, from),
-        Ask::Flags { kind, starts } => put_members(heap, out, &processor.table, kind, line, starts),
-    }
-}
-
-// Works one line, and counts it. What takes several lines has no answer of the listing's own.
-fn put_entry<T: Table>(
-    heap: Global,
-    out: &mut String,
-    processor: &mut Processor<T>,
-    text: &[u8],
-    entry: &Entry,
-) -> Result<Verdict, AllocError>
-    ensures state { OnOk result (state_of T.width T.rows processor.new.table processor.new.registers ≡ after_ask (state_of T.width T.rows processor.old.table processor.old.registers) entry.now.line.ask) }
-{
-    let number = entry.number;
-    let line = text.get(entry.from..entry.to).unwrap_or(&[]);
-    match entry.line.ask {
-        Ask::Call(Call::OnWalk(WalkCall::Registers)) => {
-            put_registers(out, processor, number)?;
-            Ok(Verdict::NoAnswer)
-        }
-        Ask::Rows { from, count } => {
-            put_rows(out, &processor.table, number, from, count)?;
-            Ok(Verdict::NoAnswer)
-        }
-        ask => {
-            put_number(out, number)?;
-            let from = put_asked(heap, out, processor, line, ask)?;
-            let answer = match entry.line.answer {
-                Some(at) => line.get(at..),
-                None => None,
-            };
-            put_verdict(out, number, from, answer)
+impl<T: Table> Record<'_, T> {
+    // Works one line. What takes several lines has no answer of the listing's own.
+    fn put_entry(&mut self, entry: &Entry) -> Result<Option<Verdict>, AllocError>
+        ensures state { OnOk result (state_of T.Table self.new.processor.now ≡ after_ask (state_of T.Table self.old.processor.now) entry.now.line.ask) }
+        ensures same { self.new.processor.ghost_name ≡ self.old.processor.ghost_name }
+    {
+        match entry.line.ask {
+            Ask::Call(Call::OnWalk(WalkCall::Registers)) => {
+                put_registers(self.out, self.processor, entry.number)?;
+                Ok(None)
+            }
+            Ask::Rows { from, count } => {
+                put_rows(self.out, &self.processor.table, entry.number, from, count)?;
+                Ok(None)
+            }
+            Ask::Call(call) => self.put_call(entry, call),
+            Ask::Register(register) => self.put_register(entry, register),
+            Ask::Row(row) => self.put_row(entry, row),
+            Ask::Flags { kind, starts } => self.put_flags(entry, kind, starts),
         }
     }
 }
@@ -91,19 +60,19 @@ pub fn hold<T: Table>(
     heap: Global,
     out: &mut String,
     processor: &mut Processor<T>,
-    text: &[u8],
     entries: &[Entry],
 ) -> Result<Tally, AllocError>
-    ensures state { OnOk result (state_of T.width T.rows processor.new.table processor.new.registers ≡ lived (state_of T.width T.rows processor.old.table processor.old.registers) (calls_of entries.now)) }
-    ensures walks { WalksComplete (state_of T.width T.rows processor.old.table processor.old.registers) (calls_of entries.now) }
+    ensures state { OnOk result (state_of T.Table processor.new ≡ lived (state_of T.Table processor.old) (calls_of entries.now)) }
+    ensures walks { WalksComplete (state_of T.Table processor.old) (calls_of entries.now) }
 {
-    let mut tally = Tally {
-        asked: 0,
-        held: 0,
-        differences: 0,
+    let mut work = Record {
+        heap,
+        out,
+        processor,
     };
+    let mut tally = Tally::default();
     for entry in entries {
-        let verdict = put_entry(heap, out, processor, text, entry)?;
+        let verdict = work.put_entry(entry)?;
         tally.count(verdict);
     }
     Ok(tally)

@@ -1,11 +1,15 @@
 // What takes several lines of a record: all registers, and rows one after the other.
-use crate::lines::{put_number, put_one_row, put_register};
+use crate::asks::{RegisterAsk, RowAsk};
+use crate::lines::put_line;
+use crate::rows::RowText;
 use processor::Processor;
-use register_text::Register;
+use register_text::{Register, ToldText, tell};
 use std::alloc::AllocError;
+use std::iter;
 use table::Table;
 
-const ALL: [Register; 45] = [
+// The registers beside the set-up of the channels.
+const PLAIN: [Register; 11] = [
     Register::HitAddress,
     Register::EmptyAddress,
     Register::Hit,
@@ -17,68 +21,41 @@ const ALL: [Register; 45] = [
     Register::Input,
     Register::Output,
     Register::Width,
-    Register::Blocks(0),
-    Register::InputStep(0, 0),
-    Register::InputStep(0, 1),
-    Register::InputStep(0, 2),
-    Register::InputStep(0, 3),
-    Register::InputStep(0, 4),
-    Register::InputStep(0, 5),
-    Register::InputStep(0, 6),
-    Register::InputStep(0, 7),
-    Register::OutputStep(0, 0),
-    Register::OutputStep(0, 1),
-    Register::OutputStep(0, 2),
-    Register::OutputStep(0, 3),
-    Register::OutputStep(0, 4),
-    Register::OutputStep(0, 5),
-    Register::OutputStep(0, 6),
-    Register::OutputStep(0, 7),
-    Register::Blocks(1),
-    Register::InputStep(1, 0),
-    Register::InputStep(1, 1),
-    Register::InputStep(1, 2),
-    Register::InputStep(1, 3),
-    Register::InputStep(1, 4),
-    Register::InputStep(1, 5),
-    Register::InputStep(1, 6),
-    Register::InputStep(1, 7),
-    Register::OutputStep(1, 0),
-    Register::OutputStep(1, 1),
-    Register::OutputStep(1, 2),
-    Register::OutputStep(1, 3),
-    Register::OutputStep(1, 4),
-    Register::OutputStep(1, 5),
-    Register::OutputStep(1, 6),
-    Register::OutputStep(1, 7),
 ];
 
+// Functions, here and below, and no methods of `Record`: a loop over the chain of registers got no proof
+// as one.
 pub(crate) fn put_registers<T: Table>(
     out: &mut String,
     processor: &Processor<T>,
     number: usize,
 ) -> Result<(), AllocError> {
-    for register in ALL {
-        put_number(out, number)?;
-        put_register(out, processor, register)?;
-        write!(out, "\n")?;
+    let set_up = (0..2).flat_map(|channel| {
+        let inputs = (0..8).map(move |step| Register::InputStep { channel, step });
+        let outputs = (0..8).map(move |step| Register::OutputStep { channel, step });
+        iter::once(Register::Blocks { channel })
+            .chain(inputs)
+            .chain(outputs)
+    });
+    for register in PLAIN.into_iter().chain(set_up) {
+        let told = ToldText(tell(&processor.registers, register));
+        put_line(out, number, RegisterAsk(register), told)?;
     }
     Ok(())
 }
 
-// The rows from `from` on, at most `count` of them.
+// The rows from `from` on, at most `count` of them if a count is given.
 pub(crate) fn put_rows<T: Table>(
     out: &mut String,
     table: &T,
     number: usize,
     from: u32,
-    count: u32,
+    count: Option<u32>,
 ) -> Result<(), AllocError> {
-    let end = from.saturating_add(count).min(table.shape().depth);
+    let depth = table.shape().depth;
+    let end = count.map_or(depth, |count| from.saturating_add(count).min(depth));
     for row in from..end {
-        put_number(out, number)?;
-        put_one_row(out, table, row)?;
-        write!(out, "\n")?;
+        put_line(out, number, RowAsk(row), RowText(table, row))?;
     }
     Ok(())
 }

@@ -1,92 +1,54 @@
 // The flags of members as text.
-use answer_text::{FlagsFaultText, FullText, HitText};
-use flags::{FullFlag, HitFlag, flags};
-use listing::FlagName;
+use answer_text::FaultText;
+use flags::{FlagKind, flags};
 use std::alloc::{AllocError, Global};
+use std::fmt::Display;
 use table::Table;
-use tokens::{next_word, number_32};
+use tokens::Cursor;
 
-// The starts that stand in a line from `at` on.
-pub(crate) fn starts(heap: Global, line: &[u8], at: usize) -> Result<Vec<u32>, AllocError> {
+// The starts that stand from a place of a line on, all of them numbers.
+pub(crate) fn starts(heap: Global, rest: Cursor) -> Result<Vec<u32>, AllocError> {
     let mut starts = Vec::new(heap);
-    let mut from = at;
-    while from < line.len() {
-        match number_32(line, from) {
-            Ok((start, end)) if end > from => {
-                starts.push(start)?;
-                from = end;
-            }
-            _ => break,
-        }
+    for start in rest.words().map_while(|word| word.number().ok()) {
+        starts.push(start)?;
     }
     Ok(starts)
 }
 
-// Appends the starts of a cut, each after a space.
-pub(crate) fn put_starts(out: &mut String, starts: &[u32]) -> Result<(), AllocError> {
-    for start in starts {
-        write!(out, " {start}")?;
-    }
-    Ok(())
-}
-
-// What stands between two flags.
-fn gap(member: usize) -> &'static str {
-    if member == 0 { "" } else { " " }
-}
-
-fn put_hits(out: &mut String, told: &[HitFlag]) -> Result<(), AllocError> {
-    for (member, flag) in told.iter().enumerate() {
-        let gap = gap(member);
-        write!(out, "{gap}{}", HitText(*flag))?;
-    }
-    Ok(())
-}
-
-fn put_full(out: &mut String, told: &[FullFlag]) -> Result<(), AllocError> {
-    for (member, flag) in told.iter().enumerate() {
-        let gap = gap(member);
-        write!(out, "{gap}{}", FullText(*flag))?;
-    }
-    Ok(())
-}
-
-fn hits<T: Table>(
-    heap: Global,
+// Appends flags, a space between each two. As eight keys are written, but each by a function that is
+// handed in, and into a text that may find no memory.
+fn put_told<K: Copy, D: Display + Drop, F: Fn(K) -> D + Drop>(
     out: &mut String,
+    told: &[K],
+    text: F,
+) -> Result<(), AllocError>
+    requires { F.IsAlwaysCallable text }
+{
+    if let [first, rest @ ..] = told {
+        write!(out, "{}", text(*first))?;
+        for flag in rest {
+            write!(out, " {}", text(*flag))?;
+        }
+    }
+    Ok(())
+}
+
+// The running flag of each member, or the refusal. A text and no `Display`, since flags need memory.
+pub(crate) fn told_flags<T: Table, K: FlagKind + Copy, D: Display + Drop, F: Fn(K) -> D + Drop>(
+    heap: Global,
     table: &T,
     cut: &[u32],
-) -> Result<(), AllocError> {
-    let mut told = vec![in heap; HitFlag::None; cut.len()]?;
+    text: F,
+) -> Result<String, AllocError>
+    requires { F.IsAlwaysCallable text }
+{
+    let mut told = vec![in heap; K::nothing(); cut.len()]?;
     match flags(table, cut, &mut told) {
-        Ok(()) => put_hits(out, &told),
-        Err(fault) => write!(out, "{}", FlagsFaultText(fault)),
-    }
-}
-
-fn full<T: Table>(
-    heap: Global,
-    out: &mut String,
-    table: &T,
-    cut: &[u32],
-) -> Result<(), AllocError> {
-    let mut told = vec![in heap; FullFlag::Full; cut.len()]?;
-    match flags(table, cut, &mut told) {
-        Ok(()) => put_full(out, &told),
-        Err(fault) => write!(out, "{}", FlagsFaultText(fault)),
-    }
-}
-
-// Appends the running flag of each member, or the refusal.
-pub(crate) fn put_flags<T: Table>(
-    heap: Global,
-    out: &mut String,
-    table: &T,
-    kind: FlagName,
-    cut: &[u32],
-) -> Result<(), AllocError> {
-    match kind {
-        FlagName::Hit => hits(heap, out, table, cut),
-        FlagName::Full => full(heap, out, table, cut),
+        Ok(()) => {
+            let mut out = String::new(heap);
+            put_told(&mut out, &told, text)?;
+            Ok(out)
+        }
+        Err(fault) => FaultText(fault).to_string(heap),
     }
 }

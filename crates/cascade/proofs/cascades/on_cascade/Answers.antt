@@ -11,5 +11,5 @@ returns g c =
     let n : length c.deref_mut.result.now ≡ 8192 * places_for (length seats) = search rules in
     let m : length c.deref_mut-2.result.now ≡ 8192 * places_for (length seats) = search rules in
     record {
-      answer = (countable-within (length seats) (omega arith) (omega arith), places_told (g.J.Job.tells c.args.job) member_seat_width member_seat_rows seats (length seats) (8192 * places_for (length seats)) _ _ _ n m c.on_places.ensures.told);
+      answer = (countable-within (length seats) _ c.is_empty.ensures c.if-is_empty.false (omega arith), places_told (g.J.Job.tells c.args.job) member_seat_width member_seat_rows seats (length seats) (8192 * places_for (length seats)) _ _ _ n m c.on_places.ensures.told);
     }

@@ -1,4 +1,4 @@
-use Rattle.std.proofs.Common.{get_or, None, ◌∙◌, sym, ap, arith}
+use Rattle.std.proofs.Common.{get_or, None, ◌∙◌, sym, ap, arith, refl}
 use Rattle.life.proofs.Complete.{walks_complete}
 use Rattle.life.specs.Meaning.{state_of}
 use Rattle.life.specs.declared.calls.Call.TheVariants.{OnRow}
@@ -11,21 +11,18 @@ use Rattle.record.proofs.holding.hold.Goals as goal
 
 pub loop-entry-init : goal.loop-entry-init
 loop-entry-init g c =
-    let t = g.T.Table in
-    let p = c.args.processor.now in
-    (omega arith, sym (asked_none (state_of t.width t.rows p.table p.registers) c.args.entries.now))
+    (omega arith, sym (asked_none (state_of g.T.Table c.args.processor.now) c.args.entries.now), refl)
 
 pub loop-entry-preserved : goal.loop-entry-preserved
 loop-entry-preserved g c =
-    let t = g.T.Table in
-    let p = c.args.processor.now in
-    let s = state_of t.width t.rows p.table p.registers in
-    let did = c.in_ok-verdict.ensures.state in
-    let none : Entry = record { number = 0; from = 0; to = 0; line = record { ask = Work (OnRow (Read 0 0)); answer = None } } in
+    let s = state_of g.T.Table c.args.processor.now in
+    let (_, lived_so_far, name) = c.loop-entry.invariant in
+    let none : Entry = record { number = 0; line = record { ask = Work (OnRow (Read 0 0)); answer = None } } in
     let asked = (get_or c.args.entries.now c.loop-entry.entry-index none).line.ask in (
       omega arith,
-      did ∙ ap (λ st. after_ask st asked) c.loop-entry.invariant.1
+      c.in_ok-verdict.ensures.state ∙ ap (λ st. after_ask st asked) lived_so_far
           ∙ sym (asked_more s c.args.entries.now c.loop-entry.entry-index none c.loop-entry-test.true),
+      c.in_ok-verdict.ensures.same ∙ name,
     )
 
 pub returns-in_err-verdict-clause-walks : goal.returns-in_err-verdict-clause-walks
