@@ -1,54 +1,29 @@
-// Runs over joins of joins. Each function sees one join only, since the check takes long over the
-// type of a deep one.
-use crate::lent::Lent;
-use crate::runs::{Run, work};
+// Work on joins of joins. Each function sees one join only, since the check takes long over the type
+// of a deep one. Not by the levels of crate `cascade`, which are its own and promise what is built.
+use crate::lent::{Halves, Lent};
+use crate::work::Work;
 use join::Join;
 use table::Table;
 
-pub(crate) fn over<'a, T: Lent<'a> + Table + Drop>(
-    words: &'a mut [u32],
-    marks: &'a mut [u8],
-    run: Run,
-) -> u32 {
-    work(T::over(words, marks), run)
+// How often tables are joined in twos, so that there are 1, 2, 4 and so on.
+pub(crate) trait Depth {
+    fn on<C: Halves, T: Lent<C> + Table + Drop, W: Work>(cells: C, work: W) -> u32;
 }
 
-pub(crate) fn two<'a, T: Lent<'a> + Table + Drop>(
-    words: &'a mut [u32],
-    marks: &'a mut [u8],
-    run: Run,
-) -> u32 {
-    over::<Join<T, T>>(words, marks, run)
+// One table alone.
+pub(crate) struct One;
+
+// Twice as many tables as D has.
+pub(crate) struct Twice<D>(D);
+
+impl Depth for One {
+    fn on<C: Halves, T: Lent<C> + Table + Drop, W: Work>(cells: C, work: W) -> u32 {
+        work.on(T::over(cells))
+    }
 }
 
-fn four<'a, T: Lent<'a> + Table + Drop>(
-    words: &'a mut [u32],
-    marks: &'a mut [u8],
-    run: Run,
-) -> u32 {
-    two::<Join<T, T>>(words, marks, run)
-}
-
-pub(crate) fn eight<'a, T: Lent<'a> + Table + Drop>(
-    words: &'a mut [u32],
-    marks: &'a mut [u8],
-    run: Run,
-) -> u32 {
-    four::<Join<T, T>>(words, marks, run)
-}
-
-fn sixteen<'a, T: Lent<'a> + Table + Drop>(
-    words: &'a mut [u32],
-    marks: &'a mut [u8],
-    run: Run,
-) -> u32 {
-    eight::<Join<T, T>>(words, marks, run)
-}
-
-pub(crate) fn thirty_two<'a, T: Lent<'a> + Table + Drop>(
-    words: &'a mut [u32],
-    marks: &'a mut [u8],
-    run: Run,
-) -> u32 {
-    sixteen::<Join<T, T>>(words, marks, run)
+impl<D: Depth> Depth for Twice<D> {
+    fn on<C: Halves, T: Lent<C> + Table + Drop, W: Work>(cells: C, work: W) -> u32 {
+        D::on::<C, Join<T, T>, W>(cells, work)
+    }
 }
