@@ -4,31 +4,32 @@
 mod record;
 mod task;
 
+use answer_text::FaultText;
 use anyhow::anyhow;
-use device::Device;
+use device::{CELLS, Device};
 use fence::Fence;
-use flags::{FullFlag, HitFlag, flags};
-use life::Answer;
+use flags::{FlagKind, FullFlag, HitFlag, flags};
+use life::Reply;
 use planes::Planes;
-use record::{AnswerText, CallText, FullText, HitText};
+use record::{CallRecord, FullRecord, HitRecord, ReplyRecord};
 use table::Table;
 use task::{CALLS, CUT};
-use trial::run_trial;
+use trial::{Trial, run_trial};
 
-fn print_answers(rt: &HostRuntime, answers: &[Answer]) -> anyhow::Result<()> {
-    for (call, answer) in CALLS.iter().zip(answers.iter()) {
-        let call = CallText(*call);
-        let answer = AnswerText(*answer);
-        println!(rt; "{call} -> {answer}")?;
+fn print_replies(rt: &HostRuntime, replies: &[Reply]) -> anyhow::Result<()> {
+    for (call, reply) in CALLS.iter().zip(replies) {
+        println!(rt; "{} -> {}", CallRecord(*call), ReplyRecord(*reply))?;
     }
     Ok(())
 }
 
 fn print_flags(rt: &HostRuntime, hits: [HitFlag; 2], full: [FullFlag; 2]) -> anyhow::Result<()> {
-    for member in 0..2usize {
-        let hit = HitText(hits[member]);
-        let empty = FullText(full[member]);
-        println!(rt; "member {member}: {hit}, {empty}")?;
+    for (member, (hit, full)) in hits.iter().zip(&full).enumerate() {
+        println!(rt;
+            "member {member}: {}, {}",
+            HitRecord(*hit),
+            FullRecord(*full)
+        )?;
     }
     Ok(())
 }
@@ -39,8 +40,12 @@ fn record_trial<U: Table + Drop, L: Table + Drop>(
     upper: U,
     lower: L,
 ) -> anyhow::Result<()> {
-    let mut hits = [HitFlag::None; 2];
-    let tried = run_trial(
+    let mut hits = [HitFlag::nothing(); 2];
+    let Trial {
+        processor,
+        answers,
+        flags: told,
+    } = run_trial(
         rt.alloc(),
         upper,
         lower,
@@ -49,23 +54,18 @@ fn record_trial<U: Table + Drop, L: Table + Drop>(
         &CUT,
         &mut hits,
     );
-    match &tried.answers {
-        Ok(answers) => print_answers(rt, answers)?,
-        Err(_) => return Err(anyhow!("no memory for the answers")),
-    }
-    let mut full = [FullFlag::Full; 2];
-    let _ = flags(&tried.processor.table, &CUT, &mut full);
+    let replies = answers.map_err(|_| anyhow!("no memory for the answers"))?;
+    print_replies(rt, &replies)?;
+    told.map_err(|fault| anyhow!("{}", FaultText(fault)))?;
+    let mut full = [FullFlag::nothing(); 2];
+    flags(&processor.table, &CUT, &mut full).map_err(|fault| anyhow!("{}", FaultText(fault)))?;
     print_flags(rt, hits, full)
 }
 
-fn run(rt: &HostRuntime) -> anyhow::Result<()> {
-    let mut words = vec![in rt.alloc(); 0u32; 8192]?;
-    let mut marks = vec![in rt.alloc(); 0u8; 8192]?;
+fn main(rt: HostRuntime) -> anyhow::Result<()> {
+    let mut words = vec![in rt.alloc(); 0u32; CELLS]?;
+    let mut marks = vec![in rt.alloc(); 0u8; CELLS]?;
     let upper = Device::open(task::WIDTH, &mut words, &mut marks);
     let lower = Fence::new(task::LOWER_HIDDEN, Planes::new());
-    record_trial(rt, upper, lower)
-}
-
-fn main(rt: HostRuntime) -> anyhow::Result<()> {
-    run(&rt)
+    record_trial(&rt, upper, lower)
 }

@@ -14,6 +14,7 @@ pub const HIDDEN: u32 = 1;
 
 pub const CUT: [u32; 2] = [0, 2727];
 
+// Each call stands in full, since the value of a constant cannot call a function.
 pub const CALLS: [Call; 38] = [
     // Segment 0 is the buoy, segment 1 its calibration. The word on segment 0 comes last, since it
     // makes the row valid.
