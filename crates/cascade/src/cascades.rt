@@ -1,13 +1,13 @@
 // A cascade of 1 to 32 members, built in memory of its own, and the work that is done on it.
 ghost use Rattle.std.specs.Prelude.{◌≡◌, length};
 ghost use Rattle.cascade.specs.Cascades.{CascadeAnswer, PlacesTold, places_for};
-ghost use Rattle.cascade.specs.Seats.{at_seat, fenced_rows, member_rows, member_width};
+ghost use Rattle.cascade.specs.Seats.{fenced_rows, member_rows, member_width};
 
 use crate::levels::{Job, Level, Twice, Two};
 use crate::members::Member;
 use crate::plans::{CascadeFault, Seat};
-use crate::seats::{Fresh, Lent};
-use crate::sites::Site;
+use crate::seats::{Build, Fresh};
+use crate::sites::{Lot, Site};
 use device::{CELLS, Cells, Device};
 use fence::Fence;
 use planes::Planes;
@@ -32,19 +32,20 @@ type Sixteen = Twice<Eight>;
 type ThirtyTwo = Twice<Sixteen>;
 
 // Generic, since no proof is made yet where a type in angle brackets is made of the device, as
-// `Fence<Member<Device, Planes>>` is.
-fn on_places<'a, 's, D: Lent<'a> + Drop, P: Fresh + Drop, J: Job>(
-    site: Site<'a, 's>,
+// `Fence<Member<Device, Planes>>` is. `seats` is how many there are.
+fn on_places<S: Lot + Drop, D: Build<S> + Drop, P: Fresh + Drop, J: Job>(
+    site: S,
+    seats: usize,
     job: J,
 ) -> J::Out
-    ensures told { PlacesTold (J.Job.tells job) (member_width (at_seat D.Lent.lent_width) P.Fresh.fresh_width) (fenced_rows (member_rows (at_seat D.Lent.lent_rows) P.Fresh.fresh_rows)) site.entry.seats.now (length site.entry.seats.now) (length site.entry.cells.words.now) (length site.entry.cells.marks.now) result }
+    ensures told { PlacesTold (J.Job.tells job) (member_width D.Build.built_width P.Fresh.fresh_width) (fenced_rows (member_rows D.Build.built_rows P.Fresh.fresh_rows)) (S.Lot.seats site) seats (S.Lot.words site) (S.Lot.bytes site) result }
 {
-    match site.seats.len() {
-        0..=2 => Two::on::<Site, Fence<Member<D, P>>, J>(site, job),
-        3..=4 => Four::on::<Site, Fence<Member<D, P>>, J>(site, job),
-        5..=8 => Eight::on::<Site, Fence<Member<D, P>>, J>(site, job),
-        9..=16 => Sixteen::on::<Site, Fence<Member<D, P>>, J>(site, job),
-        _ => ThirtyTwo::on::<Site, Fence<Member<D, P>>, J>(site, job),
+    match seats {
+        0..=2 => Two::on::<S, Fence<Member<D, P>>, J>(site, job),
+        3..=4 => Four::on::<S, Fence<Member<D, P>>, J>(site, job),
+        5..=8 => Eight::on::<S, Fence<Member<D, P>>, J>(site, job),
+        9..=16 => Sixteen::on::<S, Fence<Member<D, P>>, J>(site, job),
+        _ => ThirtyTwo::on::<S, Fence<Member<D, P>>, J>(site, job),
     }
 }
 
@@ -67,5 +68,5 @@ pub fn on_cascade<J: Job + Drop>(
         marks: &mut marks,
     };
     let site = Site { cells, seats };
-    Ok(on_places::<Device, Planes, J>(site, job))
+    Ok(on_places::<Site, Device, Planes, J>(site, seats.len(), job))
 }

@@ -1,6 +1,6 @@
 // Tables that are built over lent memory, seat by seat.
 ghost use Rattle.std.specs.Prelude.{◌≡◌, ℕ, ◌-◌, ◌/◌, List, length};
-ghost use Rattle.cascade.specs.Seats.{at_seat, fenced_rows, member_rows, member_width, opened_rows, opened_width, pair_rows, pair_width, planes_rows};
+ghost use Rattle.cascade.specs.Seats.{device_rows, device_width, fenced_rows, member_rows, member_width, opened_rows, opened_width, pair_rows, pair_width, planes_rows};
 ghost use Rattle.cascade.specs.declared.plans.Seat.{Seat};
 ghost use Rattle.table.specs.Row.{Row};
 
@@ -48,6 +48,21 @@ impl<'a> Lent<'a> for Device<'a> {
     }
 }
 
+// A device of the width that the first seat asks for. At a seat that is no device it has no rows.
+impl<'a, 's> Build<Site<'a, 's>> for Device<'a> {
+    ghost built_width = { device_width };
+
+    ghost built_rows = { device_rows };
+
+    fn build(site: Site<'a, 's>) -> Device<'a> {
+        let width = match site.first().kind {
+            Kind::Device(width) => width,
+            Kind::Planes | Kind::Vacant => 0,
+        };
+        Device::over(width, site.cells)
+    }
+}
+
 // A table with memory of its own, which opens in one way only: `Planes` so far. A trait, so that a
 // member is built, as it is a table, over any two kinds.
 pub trait Fresh: Table + Sized {
@@ -70,14 +85,14 @@ impl Fresh for Planes {
     }
 }
 
-impl<'a, 's, D: Lent<'a>, P: Fresh> Build<Site<'a, 's>> for Member<D, P> {
-    ghost built_width = { member_width (at_seat D.Lent.lent_width) P.Fresh.fresh_width };
+impl<S: Lot + Drop, D: Build<S>, P: Fresh> Build<S> for Member<D, P> {
+    ghost built_width = { member_width D.Build.built_width P.Fresh.fresh_width };
 
-    ghost built_rows = { member_rows (at_seat D.Lent.lent_rows) P.Fresh.fresh_rows };
+    ghost built_rows = { member_rows D.Build.built_rows P.Fresh.fresh_rows };
 
-    fn build(site: Site<'a, 's>) -> Member<D, P> {
+    fn build(site: S) -> Member<D, P> {
         match site.first().kind {
-            Kind::Device(width) => Member::Device(D::over(width, site.cells)),
+            Kind::Device(_) => Member::Device(D::build(site)),
             Kind::Planes => Member::Planes(P::fresh()),
             Kind::Vacant => Member::Vacant,
         }
