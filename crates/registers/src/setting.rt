@@ -175,7 +175,7 @@ impl fmt::Display for BlockWidth {
     ghost output = { λ x. Some (width_text x) };
 
     fn fmt<W: fmt::Write>(&self, f: &mut fmt::Formatter<W>) -> fmt::Result {
-        u32::from(*self).fmt(f)
+        write!(f, "{}", u32::from(*self))
     }
 }
 
