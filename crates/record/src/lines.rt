@@ -3,10 +3,10 @@ ghost use Rattle.std.specs.Prelude.{◌≡◌, OnOk};
 ghost use Rattle.life.specs.Meaning.{after, state_of};
 
 use crate::asks::{FlagsAsk, RegisterAsk, RowAsk};
-use crate::members::{starts, told_flags};
+use crate::members::{put_told_flags, starts};
 use crate::rows::RowText;
 use crate::same::same_answer;
-use crate::shown::Shown;
+use crate::shown::put_shown;
 use answer_text::{FullText, HitText, ReplyText};
 use call_text::CallText;
 use life::{Call, perform};
@@ -34,6 +34,43 @@ pub(crate) fn put_line<Q: Display + Drop, A: Display + Drop>(
     write!(out, "{number:>6}: {ask} = {answer}\n")
 }
 
+// A line begins with its number.
+fn put_number(out: &mut String, number: usize) -> Result<(), AllocError> {
+    write!(out, "{number:>6}: ")
+}
+
+// Appends what was asked, and tells where the answer is to stand.
+fn put_asked<Q: Display + Drop>(out: &mut String, ask: Q) -> Result<usize, AllocError> {
+    write!(out, "{ask} = ")?;
+    Ok(out.len())
+}
+
+// Ends a line, and tells what became of the listing's answer, if it has one. Where that is another than
+// the answer from `from` on, a comment says so. The answer stands in the record alone: a copy would need
+// memory of its own.
+fn put_verdict(
+    out: &mut String,
+    entry: &Entry,
+    from: usize,
+) -> Result<Option<Verdict>, AllocError> {
+    let held = match (entry.line.answer, out.as_bytes().get(from..)) {
+        (Some(answer), Some(given)) => same_answer(answer, given),
+        _ => false,
+    };
+    write!(out, "\n")?;
+    match entry.line.answer {
+        None => Ok(None),
+        Some(_) if held => Ok(Some(Verdict::Held)),
+        Some(answer) => {
+            let number = entry.number;
+            write!(out, "#{number:>6}: differs, the listing says: ")?;
+            put_shown(out, answer)?;
+            write!(out, "\n")?;
+            Ok(Some(Verdict::Differs))
+        }
+    }
+}
+
 // What a listing is worked on, and the text that its record is appended to.
 #[derive(Drop)]
 pub(crate) struct Record<'a, T> {
@@ -43,32 +80,7 @@ pub(crate) struct Record<'a, T> {
 }
 
 impl<T: Table> Record<'_, T> {
-    // Appends a line, and tells what became of the listing's answer, if it has one. Where that is
-    // another, a comment says so.
-    fn put_answered<Q: Display + Drop>(
-        &mut self,
-        entry: &Entry,
-        ask: Q,
-        told: &str,
-    ) -> Result<Option<Verdict>, AllocError>
-        ensures processor { self.new.processor ≡ self.old.processor }
-    {
-        let number = entry.number;
-        put_line(self.out, number, ask, told)?;
-        match entry.line.answer {
-            None => Ok(None),
-            Some(answer) if same_answer(answer, told.as_bytes()) => Ok(Some(Verdict::Held)),
-            Some(answer) => {
-                let answer = Shown(answer);
-                write!(
-                    self.out,
-                    "#{number:>6}: differs, the listing says: {answer}\n"
-                )?;
-                Ok(Some(Verdict::Differs))
-            }
-        }
-    }
-
+    // The number is written first: where there is no memory for it, the call is not worked.
     pub(crate) fn put_call(
         &mut self,
         entry: &Entry,
@@ -77,8 +89,11 @@ impl<T: Table> Record<'_, T> {
         ensures state { OnOk result (state_of T.Table self.new.processor.now ≡ after (state_of T.Table self.old.processor.now) call) }
         ensures same { self.new.processor.ghost_name ≡ self.old.processor.ghost_name }
     {
-        let reply = ReplyText(perform(self.processor, call)).to_string(self.heap)?;
-        self.put_answered(entry, CallText(call), &reply)
+        put_number(self.out, entry.number)?;
+        let reply = perform(self.processor, call);
+        let from = put_asked(self.out, CallText(call))?;
+        write!(self.out, "{}", ReplyText(reply))?;
+        put_verdict(self.out, entry, from)
     }
 
     pub(crate) fn put_register(
@@ -88,15 +103,21 @@ impl<T: Table> Record<'_, T> {
     ) -> Result<Option<Verdict>, AllocError>
         ensures processor { self.new.processor ≡ self.old.processor }
     {
-        let told = ToldText(tell(&self.processor.registers, register)).to_string(self.heap)?;
-        self.put_answered(entry, RegisterAsk(register), &told)
+        put_number(self.out, entry.number)?;
+        let from = put_asked(self.out, RegisterAsk(register))?;
+        let told = ToldText(tell(&self.processor.registers, register));
+        write!(self.out, "{told}")?;
+        put_verdict(self.out, entry, from)
     }
 
     pub(crate) fn put_row(&mut self, entry: &Entry, row: u32) -> Result<Option<Verdict>, AllocError>
         ensures processor { self.new.processor ≡ self.old.processor }
     {
-        let told = RowText(&self.processor.table, row).to_string(self.heap)?;
-        self.put_answered(entry, RowAsk(row), &told)
+        put_number(self.out, entry.number)?;
+        let from = put_asked(self.out, RowAsk(row))?;
+        let told = RowText(&self.processor.table, row);
+        write!(self.out, "{told}")?;
+        put_verdict(self.out, entry, from)
     }
 
     pub(crate) fn put_flags(
@@ -107,12 +128,14 @@ impl<T: Table> Record<'_, T> {
     ) -> Result<Option<Verdict>, AllocError>
         ensures processor { self.new.processor ≡ self.old.processor }
     {
+        put_number(self.out, entry.number)?;
         let cut = starts(self.heap, rest)?;
+        let from = put_asked(self.out, FlagsAsk(kind, &cut))?;
         let table = &self.processor.table;
-        let told = match kind {
-            FlagName::Hit => told_flags(self.heap, table, &cut, HitText)?,
-            FlagName::Full => told_flags(self.heap, table, &cut, FullText)?,
-        };
-        self.put_answered(entry, FlagsAsk(kind, &cut), &told)
+        match kind {
+            FlagName::Hit => put_told_flags(self.heap, self.out, table, &cut, HitText)?,
+            FlagName::Full => put_told_flags(self.heap, self.out, table, &cut, FullText)?,
+        }
+        put_verdict(self.out, entry, from)
     }
 }

@@ -33,22 +33,19 @@ fn put_told<K: Copy, D: Display + Drop, F: Fn(K) -> D + Drop>(
     Ok(())
 }
 
-// The running flag of each member, or the refusal. A text and no `Display`, since flags need memory.
-pub(crate) fn told_flags<T: Table, K: FlagKind + Copy, D: Display + Drop, F: Fn(K) -> D + Drop>(
+// Appends the running flag of each member, or the refusal. No `Display`, since flags need memory.
+pub(crate) fn put_told_flags<T: Table, K: FlagKind + Copy, D: Display + Drop, F: Fn(K) -> D + Drop>(
     heap: Global,
+    out: &mut String,
     table: &T,
     cut: &[u32],
     text: F,
-) -> Result<String, AllocError>
+) -> Result<(), AllocError>
     requires { F.IsAlwaysCallable text }
 {
     let mut told = vec![in heap; K::nothing(); cut.len()]?;
     match flags(table, cut, &mut told) {
-        Ok(()) => {
-            let mut out = String::new(heap);
-            put_told(&mut out, &told, text)?;
-            Ok(out)
-        }
-        Err(fault) => FaultText(fault).to_string(heap),
+        Ok(()) => put_told(out, &told, text),
+        Err(fault) => write!(out, "{}", FaultText(fault)),
     }
 }

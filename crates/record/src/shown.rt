@@ -1,9 +1,5 @@
 // Bytes of a listing as they can be shown.
-use std::fmt;
-
-// Bytes as text.
-#[derive(Clone, Copy)]
-pub(crate) struct Shown<'a>(pub(crate) &'a [u8]);
+use std::alloc::AllocError;
 
 // A byte as a character; a question mark, if it is none that can be printed.
 fn as_shown(byte: u8) -> char {
@@ -13,11 +9,10 @@ fn as_shown(byte: u8) -> char {
     }
 }
 
-impl fmt::Display for Shown<'_> {
-    fn fmt<W: fmt::Write>(&self, f: &mut fmt::Formatter<W>) -> fmt::Result {
-        for byte in self.0 {
-            f.write_char(as_shown(*byte))?;
-        }
-        Ok(())
+// Appends bytes as text. One by one and no `Display`: by `write_char` it took twice as long and more.
+pub(crate) fn put_shown(out: &mut String, bytes: &[u8]) -> Result<(), AllocError> {
+    for byte in bytes {
+        out.push(as_shown(*byte))?;
     }
+    Ok(())
 }
