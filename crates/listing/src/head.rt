@@ -11,8 +11,11 @@ pub enum HeadLine {
 
 fn width(rest: &mut Cursor) -> Result<u32, TextFault> {
     let word = rest.next_word();
-    match rest.number()? {
-        width @ 1..=8 => Ok(width),
+    match word.number()? {
+        width @ 1..=8 => {
+            rest.at = word.end;
+            Ok(width)
+        }
         _ => Err(word.fault(Expected::Width)),
     }
 }

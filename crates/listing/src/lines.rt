@@ -7,15 +7,15 @@ use tokens::{Cursor, Expected, TextFault};
 
 // Where a line's text begins: a record's line number, digits and a colon, is passed over.
 pub(crate) fn text_start(line: &[u8]) -> Cursor<'_> {
-    let mut start = Cursor { line, at: 0 };
-    let word = start.next_word();
-    if let [digits @ .., b':'] = word.text
-        && digits.iter().all(|byte| byte.is_ascii_digit())
-    {
-        start.at = word.end;
-    }
-    start.at = start.word_start();
-    start
+    let word = Cursor { line, at: 0 }.next_word();
+    let at = match word.text {
+        [digits @ .., b':'] if digits.iter().all(|byte| byte.is_ascii_digit()) => {
+            let at = word.end;
+            Cursor { line, at }.word_start()
+        }
+        _ => word.start,
+    };
+    Cursor { line, at }
 }
 
 // Whether nothing but a comment is left.
@@ -28,7 +28,10 @@ pub(crate) fn end(rest: Cursor) -> Result<(), TextFault> {
     if is_end(rest) {
         return Ok(());
     }
-    Err(rest.next_word().fault(Expected::End))
+    Err(TextFault {
+        at: rest.word_start(),
+        expected: Expected::End,
+    })
 }
 
 fn flags<'a>(rest: &mut Cursor<'a>) -> Result<Ask<'a>, TextFault> {
@@ -87,7 +90,10 @@ fn answer(rest: Cursor<'_>) -> Result<Option<&[u8]>, TextFault> {
             }
             Ok(rest.line.get(word.start..))
         }
-        Some(_) => Err(rest.next_word().fault(Expected::AnswerOrEnd)),
+        Some(_) => Err(TextFault {
+            at: start,
+            expected: Expected::AnswerOrEnd,
+        }),
     }
 }
 

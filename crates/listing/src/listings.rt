@@ -29,13 +29,6 @@ pub struct Listing<'a> {
     pub fault: Option<LineFault>,
 }
 
-// What a line is, read at its place in a listing.
-#[derive(Clone, Copy)]
-enum Content<'a> {
-    Head(HeadLine),
-    Asks(Line<'a>),
-}
-
 // Whether a line of the head may stand behind so many members.
 fn may_stand(line: HeadLine, members: usize) -> Result<(), Expected> {
     match line {
@@ -45,36 +38,76 @@ fn may_stand(line: HeadLine, members: usize) -> Result<(), Expected> {
     }
 }
 
-// A line behind the head.
-fn asked(rest: Cursor<'_>) -> Result<Option<Content<'_>>, TextFault> {
-    Ok(read_line(rest)?.map(Content::Asks))
-}
-
-// A line of the head, or the first that asks something.
-fn head_content(mut rest: Cursor<'_>, members: usize) -> Result<Option<Content<'_>>, TextFault> {
-    let word = rest.next_word();
-    match read_head_line(&mut rest)? {
+// What a line of the head names; nothing, if the head has ended. The place is where the line's text
+// begins, and then behind what was named.
+fn head_line(rest: &mut Cursor, members: usize) -> Result<Option<HeadLine>, TextFault> {
+    let at = rest.at;
+    match read_head_line(rest)? {
         Some(line) => {
-            may_stand(line, members).map_err(|expected| word.fault(expected))?;
-            end(rest)?;
-            Ok(Some(Content::Head(line)))
+            may_stand(line, members).map_err(|expected| TextFault { at, expected })?;
+            end(*rest)?;
+            Ok(Some(line))
         }
-        None if members == 0 => Err(word.fault(Expected::Member)),
-        None => asked(rest),
+        None if members == 0 => Err(TextFault {
+            at,
+            expected: Expected::Member,
+        }),
+        None => Ok(None),
     }
 }
 
-// What a line is; nothing, if it is blank or a comment. `head` says how many members stand before it,
-// as long as the head goes on.
-fn read_content(line: &[u8], head: Option<usize>) -> Result<Option<Content<'_>>, TextFault> {
-    let rest = text_start(line);
+// Why reading stops before the end of a listing.
+enum Stop {
+    Fault(TextFault),
+    NoMemory(AllocError),
+}
+
+impl From<TextFault> for Stop {
+    fn from(fault: TextFault) -> Stop {
+        Stop::Fault(fault)
+    }
+}
+
+impl From<AllocError> for Stop {
+    fn from(error: AllocError) -> Stop {
+        Stop::NoMemory(error)
+    }
+}
+
+// Takes a line into a listing; a blank line or a comment brings nothing. `head` says how many members
+// stand before it, as long as the head goes on. What is asked goes into its entry at once: handed on as
+// a part of larger values, it was copied so often that short lines took half as long again.
+fn take_line<'a>(
+    listing: &mut Listing<'a>,
+    head: &mut Option<usize>,
+    number: usize,
+    line: &'a [u8],
+) -> Result<(), Stop> {
+    let mut rest = text_start(line);
     if is_end(rest) {
-        return Ok(None);
+        return Ok(());
     }
-    match head {
-        Some(members) => head_content(rest, members),
-        None => asked(rest),
+    if let Some(members) = *head
+        && let Some(line) = head_line(&mut rest, members)?
+    {
+        match line {
+            HeadLine::Member(seat) => {
+                listing.seats.push(seat).map_err(AllocError::from)?;
+                *head = Some(listing.seats.len());
+            }
+            HeadLine::Fence(rows) => {
+                listing.hidden = rows;
+                *head = None;
+            }
+        }
+        return Ok(());
     }
+    if let Some(line) = read_line(rest)? {
+        *head = None;
+        let entry = Entry { number, line };
+        listing.entries.push(entry).map_err(AllocError::from)?;
+    }
+    Ok(())
 }
 
 // Reads a listing up to its end, or up to the first line that cannot be read.
@@ -87,24 +120,13 @@ pub fn read_listing(heap: Global, text: &[u8]) -> Result<Listing<'_>, AllocError
     };
     let mut head = Some(0);
     for (number, line) in (1..).zip(text.split(|byte| *byte == b'\n')) {
-        match read_content(line, head) {
-            Ok(None) => {}
-            Ok(Some(Content::Head(HeadLine::Member(seat)))) => {
-                listing.seats.push(seat)?;
-                head = Some(listing.seats.len());
-            }
-            Ok(Some(Content::Head(HeadLine::Fence(rows)))) => {
-                listing.hidden = rows;
-                head = None;
-            }
-            Ok(Some(Content::Asks(line))) => {
-                head = None;
-                listing.entries.push(Entry { number, line })?;
-            }
-            Err(fault) => {
+        match take_line(&mut listing, &mut head, number, line) {
+            Ok(()) => {}
+            Err(Stop::Fault(fault)) => {
                 listing.fault = Some(LineFault { number, fault });
                 break;
             }
+            Err(Stop::NoMemory(error)) => return Err(error),
         }
     }
     Ok(listing)
