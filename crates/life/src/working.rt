@@ -1,5 +1,5 @@
 // The working of one call.
-ghost use Rattle.std.specs.Prelude.{◌≡◌, ℕ};
+ghost use Rattle.std.specs.Prelude.{◌≡◌, ℕ, Ok};
 ghost use Rattle.life.specs.Meaning.{port_regs, port_reply, port_rows, regs_after, reply_to, row_regs, row_reply, row_rows, rows_after, set_up_regs, set_up_reply, state_of, walk_regs, walk_reply};
 
 use crate::calls::{Answer, Call, PortCall, Reply, RowCall, SetUpCall, WalkCall};
@@ -18,7 +18,7 @@ pub fn perform<T: Table>(processor: &mut Processor<T>, call: Call) -> Reply
     match call {
         Call::OnRow(call) => on_row(processor, call),
         Call::Search(query) => Ok(Answer::Address(processor.search(query)?)),
-        Call::OnWalk(call) => Ok(on_walk(processor, call)),
+        Call::OnWalk(call) => on_walk(processor, call),
         Call::OnSetUp(call) => on_set_up(processor, call),
         Call::OnPort(call) => on_port(processor, call),
     }
@@ -51,19 +51,21 @@ fn on_row<T: Table>(processor: &mut Processor<T>, call: RowCall) -> Reply
     Ok(Answer::Done)
 }
 
-fn on_walk<T: Table>(processor: &mut Processor<T>, call: WalkCall) -> Answer
-    ensures answer { result ≡ walk_reply (state_of T.Table processor.old) call }
+// None of these is refused. A reply all the same: an answer has room for all registers, and would be
+// copied into one.
+fn on_walk<T: Table>(processor: &mut Processor<T>, call: WalkCall) -> Reply
+    ensures answer { result ≡ Ok (walk_reply (state_of T.Table processor.old) call) }
     ensures rows { T.rows processor.new.table ≡ T.rows processor.old.table }
     ensures registers { processor.new.registers ≡ walk_regs (state_of T.Table processor.old) call }
     ensures width { T.width processor.new.table ≡ T.width processor.old.table }
     ensures frame { T.frame processor.old.table processor.new.table }
 {
     match call {
-        WalkCall::Rewind => Answer::Address(processor.rewind()),
-        WalkCall::NextHit => Answer::Address(processor.next_hit()),
-        WalkCall::FindEmpty => Answer::Address(processor.find_empty()),
-        WalkCall::NextEmpty => Answer::Address(processor.next_empty()),
-        WalkCall::Registers => Answer::Registers(processor.registers()),
+        WalkCall::Rewind => Ok(Answer::Address(processor.rewind())),
+        WalkCall::NextHit => Ok(Answer::Address(processor.next_hit())),
+        WalkCall::FindEmpty => Ok(Answer::Address(processor.find_empty())),
+        WalkCall::NextEmpty => Ok(Answer::Address(processor.next_empty())),
+        WalkCall::Registers => Ok(Answer::Registers(processor.registers())),
     }
 }
 

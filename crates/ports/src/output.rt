@@ -1,11 +1,11 @@
 // The output port: each step tells one word of what was found.
 ghost use Rattle.std.specs.Prelude.{◌≡◌, ◌<◌};
-ghost use Rattle.ports.specs.Output.{bit_at, item_word, status_word, step_bits, word_answer, word_left};
+ghost use Rattle.ports.specs.Output.{bit_at, item_word, output_step_at, status_word, step_bits, word_answer, word_left};
 ghost use Rattle.table.specs.Calls.{granted};
 
 use crate::faults::{AtStep, PortFault};
 use processor::{CommandFault, Processor};
-use registers::{Channel, Item, OutputPlace, Registers, Sequence};
+use registers::{Channel, Item, OutputPlace, OutputStep, Registers, Sequence};
 use table::Table;
 
 // The next word. A refused step stays next.
@@ -20,8 +20,7 @@ pub fn word<T: Table>(processor: &mut Processor<T>) -> Result<u32, PortFault>
         Sequence::Open(place) if place.step < 8 => place,
         Sequence::Open(_) | Sequence::Ended => return Err(PortFault::HasEnded),
     };
-    let channel = processor.registers.setup.of(place.channel);
-    let step = channel.outputs[place.step as usize];
+    let step = step_at(&processor.registers, place);
     let told = item_word(processor, step.item);
     let word = told.map_err(|fault| AtStep {
         step: place.step,
@@ -36,6 +35,18 @@ pub fn word<T: Table>(processor: &mut Processor<T>) -> Result<u32, PortFault>
         })
     };
     Ok(word)
+}
+
+// The step at a place, looked at where it stands: a channel's whole set-up is a large value to hand out.
+fn step_at(registers: &Registers, place: OutputPlace) -> OutputStep
+    requires { place.step < 8 }
+    ensures answer { result ≡ output_step_at registers.now place }
+{
+    let steps = match place.channel {
+        Channel::A => &registers.setup.a.outputs,
+        Channel::B => &registers.setup.b.outputs,
+    };
+    steps[place.step as usize]
 }
 
 // The word of an item. By one match with guards, on ranges and on a missing hit address: a rule of this
